@@ -1,0 +1,6 @@
+use mathlib.Core.Path.{refl}
+use Rattle.laws.proofs.Fronts.{behind-front}
+use Rattle.adapters.proofs.dropwhile.DropWhile.new.Needs as need
+
+pub returns : need.returns
+returns g c = record { ahead = refl; law = behind-front (g .P·Predicate .says (c .args .predicate)) (g .S·Source .ahead (c .args .source)); holds = (refl, refl, refl) }

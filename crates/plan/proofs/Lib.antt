@@ -1,0 +1,2 @@
+mod Joints
+mod Passing

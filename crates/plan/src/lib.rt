@@ -1,0 +1,16 @@
+// The plan checker: blocks and faulty records read from a plan, every two neighbouring blocks laid side
+// by side, and whether the plan passes.
+
+mod account;
+mod seam;
+mod split;
+mod text;
+
+pub use account::Account;
+pub use account::Tally;
+pub use account::check;
+pub use seam::Finding;
+pub use seam::Joint;
+pub use seam::Seam;
+pub use text::verdict;
+pub use text::write_account;

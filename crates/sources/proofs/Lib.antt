@@ -1,0 +1,3 @@
+mod Lists
+mod Counting
+pub mod Reading

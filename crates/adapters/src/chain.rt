@@ -31,6 +31,13 @@ impl<A: Source, B: Source<Item = A::Item>> Chain<A, B> {
         ensures law { λ r. ⌜ one-after-other (A·Source .ahead first) (B·Source .ahead second) (chains (r .stage) (A·Source .ahead (r .first)) (B·Source .ahead (r .second))) ⌝ }
         ensures holds { λ r. ⌜ (r .first ≡ first) × (r .second ≡ second) × (r .stage ≡ at-first) ⌝ }
     {
+        Self::fresh(first, second)
+    }
+
+    // One that was not stepped yet.
+    fn fresh(first: A, second: B) -> Self
+        ensures holds { λ r. ⌜ (r .first ≡ first) × (r .second ≡ second) × (r .stage ≡ at-first) ⌝ }
+    {
         Chain {
             first,
             second,

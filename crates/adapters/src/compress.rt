@@ -28,6 +28,13 @@ where
         ensures law { λ r. ⌜ keeps-accepted (P·Predicate .says predicate) (D·Source .ahead items) (S·Source .ahead selectors) (compresses (P·Predicate .says (r .predicate)) (r .ended) (D·Source .ahead (r .items)) (S·Source .ahead (r .selectors))) ⌝ }
         ensures holds { λ r. ⌜ (r .items ≡ items) × (r .selectors ≡ selectors) × (r .predicate ≡ predicate) × (r .ended ≡ false) ⌝ }
     {
+        Self::fresh(items, selectors, predicate)
+    }
+
+    // One that was not stepped yet.
+    fn fresh(items: D, selectors: S, predicate: P) -> Self
+        ensures holds { λ r. ⌜ (r .items ≡ items) × (r .selectors ≡ selectors) × (r .predicate ≡ predicate) × (r .ended ≡ false) ⌝ }
+    {
         Compress {
             items,
             selectors,

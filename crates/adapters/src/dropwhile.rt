@@ -25,6 +25,13 @@ where
         ensures law { λ r. ⌜ behind-front (P·Predicate .says predicate) (S·Source .ahead source) (drops (P·Predicate .says (r .predicate)) (r .«start_flag») (S·Source .ahead (r .source))) ⌝ }
         ensures holds { λ r. ⌜ (r .predicate ≡ predicate) × (r .source ≡ source) × (r .«start_flag» ≡ false) ⌝ }
     {
+        Self::fresh(predicate, source)
+    }
+
+    // One that was not stepped yet.
+    fn fresh(predicate: P, source: S) -> Self
+        ensures holds { λ r. ⌜ (r .predicate ≡ predicate) × (r .source ≡ source) × (r .«start_flag» ≡ false) ⌝ }
+    {
         DropWhile {
             predicate,
             source,

@@ -20,6 +20,13 @@ impl<S: Source> Pairwise<S> {
         ensures law { λ r. ⌜ neighbours (S·Source .ahead source) (pairs (r .old) (S·Source .ahead (r .source))) ⌝ }
         ensures holds { λ r. ⌜ (r .source ≡ source) × (r .old ≡ no-item) ⌝ }
     {
+        Self::fresh(source)
+    }
+
+    // One that was not stepped yet.
+    fn fresh(source: S) -> Self
+        ensures holds { λ r. ⌜ (r .source ≡ source) × (r .old ≡ no-item) ⌝ }
+    {
         Pairwise { source, old: None }
     }
 

@@ -25,6 +25,13 @@ where
         ensures law { λ r. ⌜ longest-front (P·Predicate .says predicate) (S·Source .ahead source) (takes (P·Predicate .says (r .predicate)) (r .«stop_flag») (S·Source .ahead (r .source))) ⌝ }
         ensures holds { λ r. ⌜ (r .predicate ≡ predicate) × (r .source ≡ source) × (r .«stop_flag» ≡ false) ⌝ }
     {
+        Self::fresh(predicate, source)
+    }
+
+    // One that was not stepped yet.
+    fn fresh(predicate: P, source: S) -> Self
+        ensures holds { λ r. ⌜ (r .predicate ≡ predicate) × (r .source ≡ source) × (r .«stop_flag» ≡ false) ⌝ }
+    {
         TakeWhile {
             predicate,
             source,

@@ -15,10 +15,21 @@ pub struct ZipLongest<L: Source, R: Source> {
     right_fill: R::Item,
 }
 
-impl<L: Source, R: Source> ZipLongest<L, R> {
+impl<L: Source, R: Source> ZipLongest<L, R>
+where
+    L::Item: Copy,
+    R::Item: Copy,
+{
     pub fn new(left: L, right: R, left_fill: L::Item, right_fill: R::Item) -> Self
         ensures ahead { λ r. ⌜ zipped (r .«left_fill») (r .«right_fill») (L·Source .ahead (r .left)) (R·Source .ahead (r .right)) ≡ zipped «left_fill» «right_fill» (L·Source .ahead left) (R·Source .ahead right) ⌝ }
         ensures law { λ r. ⌜ longest-zip «left_fill» «right_fill» (L·Source .ahead left) (R·Source .ahead right) (zipped (r .«left_fill») (r .«right_fill») (L·Source .ahead (r .left)) (R·Source .ahead (r .right))) ⌝ }
+        ensures holds { λ r. ⌜ (r .left ≡ left) × (r .right ≡ right) × (r .«left_fill» ≡ «left_fill») × (r .«right_fill» ≡ «right_fill») ⌝ }
+    {
+        Self::fresh(left, right, left_fill, right_fill)
+    }
+
+    // One that was not stepped yet.
+    fn fresh(left: L, right: R, left_fill: L::Item, right_fill: R::Item) -> Self
         ensures holds { λ r. ⌜ (r .left ≡ left) × (r .right ≡ right) × (r .«left_fill» ≡ «left_fill») × (r .«right_fill» ≡ «right_fill») ⌝ }
     {
         ZipLongest {

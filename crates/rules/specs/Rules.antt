@@ -15,6 +15,10 @@ below limit n = Ok (ltb n limit)
 abbrev pub lasts : ℕ → Block → Result Bool Fault
 lasts minutes b = Ok (leb (b .start + minutes) (b .end))
 
+-- the same block in all four numbers
+abbrev pub same-block : Block → Block → Bool
+same-block a b = eqb (a .bus) (b .bus) && (eqb (a .bay) (b .bay) && (eqb (a .start) (b .start) && eqb (a .end) (b .end)))
+
 -- a block's bay and bus
 abbrev pub bay-and-bus : Block → ℕ × ℕ
 bay-and-bus b = (b .bay, b .bus)

@@ -1,11 +1,11 @@
 ghost use lib.Dec.{eqb};
 ghost use Rattle.std.specs.declared.result.Result.the-variants.{Ok as is-ok};
-ghost use Rattle.rules.specs.Rules.{bay-and-bus, same-pair};
+ghost use Rattle.rules.specs.Rules.{bay-and-bus, same-block, same-pair};
 use sources::Block;
 use steps::Fault;
 use steps::Keying;
 
-// The key of a number is the number itself.
+// The key of an item is the item itself.
 #[derive(Clone, Copy, PartialEq, Eq, Debug)]
 pub struct Itself;
 
@@ -22,6 +22,23 @@ pub impl Keying<u64> for Itself as ItselfKeying {
 
     fn same_key(&self, a: u64, b: u64) -> bool {
         a == b
+    }
+}
+
+// The key of a block is the block itself.
+pub impl Keying<Block> for Itself as BlockItselfKeying {
+    type Key = Block;
+
+    ghost key = { λ _ b. is-ok b };
+
+    ghost same = { same-block };
+
+    fn key_of(&self, item: Block) -> Result<Block, Fault> {
+        Ok(item)
+    }
+
+    fn same_key(&self, a: Block, b: Block) -> bool {
+        a.bus == b.bus && a.bay == b.bay && a.start == b.start && a.end == b.end
     }
 }
 

@@ -12,6 +12,7 @@ pub use key::Bay;
 pub use key::BayAndBus;
 pub use key::BayAndBusKeying;
 pub use key::BayKeying;
+pub use key::BlockItselfKeying;
 pub use key::Itself;
 pub use key::ItselfKeying;
 pub use predicate::Below;

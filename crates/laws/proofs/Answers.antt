@@ -41,3 +41,7 @@ pub first-kept : {A : Type 0} (met : Option Fault) (ss : List (Step A)) → earl
 first-kept met [] = refl
 first-kept met (item a ∷ ss) = refl
 first-kept met (fault f ∷ ss) = earlier-again met (first-fault ss) f
+
+-- some steps are not none
+pub no-cons : {A : Type 0} (s : Step A) (ss : List (Step A)) → s ∷ ss ≡ [] → ⊥
+no-cons s ss e = let z : _≡_ {A = ℕ} 0 1 = cc in omega arith

@@ -17,6 +17,7 @@ use Rattle.steps.specs.declared.fault.Fault.{Fault}
 use Rattle.steps.specs.declared.answer.Step.{Step}
 use Rattle.steps.specs.declared.answer.Step.the-variants.{Item as item, Fault as fault}
 use Rattle.laws.specs.Items.{Decided}
+use Rattle.laws.proofs.Answers.{no-cons}
 use Rattle.laws.specs.Compress.{keep-on, compressed, compresses, CompressAfter, compress-go, compressing, compress-after, CompressLeft, compress-end, compress-ends, one-if, accepted, KeepsAccepted, CompressDraws}
 
 -- the n-th of what is kept, one pair further: behind the datum if its selector is accepted
@@ -94,9 +95,6 @@ compress-stays p true ds ts = refl
 compress-stays p false ds ts = compressing-stays p ds ts
 
 -- a call that says end is the last that draws
-no-cons : {A : Type 0} (s : Step A) (ss : List (Step A)) → s ∷ ss ≡ [] → ⊥
-no-cons s ss e = let z : _≡_ {A = ℕ} 0 1 = cc in omega arith
-
 go-ended : {A B : Type 0} (r : Result Bool Fault) (a : A) (gives : List (Step A)) (ds : List (Step A)) (ts : List (Step B)) (more : CompressAfter A B) →
     (gives ≡ [] → more .ended ≡ true) → keep-on r a gives ≡ [] → compress-go r ds ts more .ended ≡ true
 go-ended (Ok true) a gives ds ts more h e = absurd (no-cons (item a) gives e)

@@ -17,6 +17,7 @@ use Rattle.steps.specs.declared.fault.Fault.{Fault}
 use Rattle.steps.specs.declared.answer.Step.{Step}
 use Rattle.steps.specs.declared.answer.Step.the-variants.{Item as item, Fault as fault}
 use Rattle.laws.specs.Items.{given, items, past}
+use Rattle.laws.proofs.Answers.{no-cons}
 use Rattle.laws.specs.Islice.{maxsize, Bounds, small, or-else, checked, bounds, larger, until, raised, reached, over, number, counted, slices, SliceAfter, slice-after, slice-end, below-stop, EveryStep, DrawnByEnd}
 
 -- without a stop the numbers end where 64 bits do
@@ -151,10 +152,6 @@ end-stays stop stride (item a ∷ ss) next cur =
     cond-two (EndsAs stop stride) (over stop next cur) _ _ _ _
     (λ e. cond-true _ _ _ e)
     (λ e. cond-two (EndsAs stop stride) (ltb cur (number next)) _ _ _ _ (λ l. end-stays stop stride ss next (cur + 1)) (λ l. refl))
-
--- two lists that differ
-no-cons : {A : Type 0} (s : Step A) (ss : List (Step A)) → s ∷ ss ≡ [] → ⊥
-no-cons s ss e = let z : _≡_ {A = ℕ} 0 1 = cc in omega arith
 
 -- the same for three values
 cond-three : {A B C : Type 0} (P : A → B → C → Type 0) (b : Bool) (x y : A) (u v : B) (w z : C) → (b ≡ true → P x u w) → (b ≡ false → P y v z) → P (cond b x y) (cond b u v) (cond b w z)

@@ -98,15 +98,13 @@ fn drawn_until(start: u64, stop: Option<u64>) -> Option<u64>
 
 impl<S: Source> Islice<S> {
     // Arguments that are not one to three entries, a step of 0 and a number above MAXSIZE are refused.
-    pub fn new(source: S, arguments: &[Option<u64>]) -> Result<Self, Refusal>
-    where
-        S: Drop,
+    pub fn new(source: S, arguments: &[Option<u64>]) -> Result<Self, (Refusal, S)>
         ensures { λ r. ⌜ by-result r
             (λ s. (s .source ≡ source) × slice-made (now (arguments .entry)) (S·Source .ahead source) (s .cur) (s .next) (s .stop) (s .step))
-            (λ e. (bounds (now (arguments .entry)) ≡ none) × (refusal-number e ≡ 5)) ⌝ }
+            (λ e. (bounds (now (arguments .entry)) ≡ none) × (refusal-number (e .0) ≡ 5) × (e .1 ≡ source)) ⌝ }
     {
         let Some(window) = read_window(arguments) else {
-            return Err(Refusal::SliceArguments);
+            return Err((Refusal::SliceArguments, source));
         };
         let stop = drawn_until(window.start, window.stop);
         Ok(Islice {
@@ -167,6 +165,8 @@ where
         ensures meets { λ r. ⌜ r ≡ first-fault (slices (now (self .entry) .stop) (now (self .entry) .step) (now (self .entry) .next) (now (self .entry) .cur) (S·Source .ahead (now (self .entry) .source))) ⌝ }
         ensures ended { λ _. ⌜ slices (now (self .exit) .stop) (now (self .exit) .step) (now (self .exit) .next) (now (self .exit) .cur) (S·Source .ahead (now (self .exit) .source)) ≡ [] ⌝ }
         ensures below { λ _. ⌜ S·Source .ahead (now (self .exit) .source) ≡ slice-end (now (self .entry) .stop) (now (self .entry) .step) (now (self .entry) .next) (now (self .entry) .cur) (S·Source .ahead (now (self .entry) .source)) ⌝ }
+        ensures rests { λ _. ⌜ slice-after (now (self .exit) .stop) (now (self .exit) .step) (now (self .exit) .next) (now (self .exit) .cur) (S·Source .ahead (now (self .exit) .source)) .left ≡ S·Source .ahead (now (self .exit) .source) ⌝ }
+        ensures keeps { λ _. ⌜ (now (self .exit) .stop ≡ now (self .entry) .stop) × (now (self .exit) .step ≡ now (self .entry) .step) ⌝ }
     {
         let mut met = None;
         loop {
@@ -180,15 +180,15 @@ where
 }
 
 // Draws from a source what an islice of these arguments draws, and hands it back with the first fault that was met, if any.
-pub fn consume<S: Source + Drop>(
+pub fn consume<S: Source>(
     source: S,
     arguments: &[Option<u64>],
-) -> Result<(S, Option<Fault>), Refusal>
+) -> Result<(S, Option<Fault>), (Refusal, S)>
 where
     S::Item: Drop,
     ensures { λ r. ⌜ by-result r
         (λ p. consumed (now (arguments .entry)) (S·Source .ahead source) (S·Source .ahead (p .0)) (p .1))
-        (λ e. (bounds (now (arguments .entry)) ≡ none) × (refusal-number e ≡ 5)) ⌝ }
+        (λ e. (bounds (now (arguments .entry)) ≡ none) × (refusal-number (e .0) ≡ 5) × (e .1 ≡ source)) ⌝ }
 {
     let mut slice = Islice::new(source, arguments)?;
     let met = slice.finish();

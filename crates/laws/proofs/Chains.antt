@@ -3,7 +3,7 @@ use mathlib.Core.Path.{_≡_, refl, sym, ap, _∙_}
 use mathlib.Core.List.{List, [], _∷_, _++_, map}
 use Rattle.std.proofs.shelf.Lists.{map-append}
 use Rattle.steps.specs.declared.answer.Step.{Step}
-use Rattle.steps.specs.declared.answer.Step.the-variants.{Item as item, Fault as fault}
+use Rattle.steps.specs.declared.answer.Step.the-variants.{Item as item}
 use Rattle.laws.specs.Chain.{until-fault, OneAfterOther}
 
 pub no-fault : {A : Type 0} (xs : List A) → until-fault (map item xs) ≡ map item xs

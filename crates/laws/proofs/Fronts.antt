@@ -1,13 +1,12 @@
 -- The longest front that a predicate accepts: takewhile gives it, dropwhile what is behind it.
-use mathlib.Core.Path.{_≡_, refl, sym, ap, subst, _∙_}
-use mathlib.Core.Bool.{Bool, true, false}
+use mathlib.Core.Path.{_≡_, refl, ap, _∙_}
+use mathlib.Core.Bool.{Bool}
 use mathlib.Core.List.{List, [], _∷_, _++_, map}
-use mathlib.Core.Logic.{_⊎_, inl, inr, ⊎-elim}
+use mathlib.Core.Logic.{_⊎_, ⊎-elim}
 use Rattle.std.specs.declared.result.Result.{Result}
-use Rattle.std.specs.declared.result.Result.the-variants.{Ok, Err}
 use Rattle.steps.specs.declared.fault.Fault.{Fault}
 use Rattle.steps.specs.declared.answer.Step.{Step}
-use Rattle.steps.specs.declared.answer.Step.the-variants.{Item as item, Fault as fault}
+use Rattle.steps.specs.declared.answer.Step.the-variants.{Item as item}
 use Rattle.laws.specs.Items.{Accepted, Denied, Decided}
 use Rattle.laws.specs.TakeWhile.{take-on, taken, LongestFront}
 use Rattle.laws.specs.DropWhile.{drop-on, dropped, BehindFront}

@@ -2,7 +2,7 @@
 use mathlib.Core.Path.{_≡_, refl, sym, ap, subst, _∙_}
 use mathlib.Core.Bool.{Bool, true, false, cond, _&&_}
 use mathlib.Core.List.{List, [], _∷_, map}
-use mathlib.Core.Logic.{_⊎_, inl, inr, ⊎-elim}
+use mathlib.Core.Logic.{_⊎_, ⊎-elim}
 use Prim.Native.Nat.{ℕ, zero, suc, _+_, _*_, _-_, _^_, _<_, _≤_}
 use native.Mathlib.Nat.{suc-mul, zero-mul}
 use native.Mathlib.Omega.{arith}
@@ -11,7 +11,7 @@ use lib.ListN.{length}
 use Rattle.std.specs.Finite.{nth}
 use Rattle.std.specs.declared.option.Option.{Option}
 use Rattle.std.specs.declared.option.Option.the-variants.{Some, None}
-use Rattle.std.proofs.shelf.Tests.{ltb-true, ltb-false, leb-true, leb-false, lt-ltb, le-ltb, le-leb, lt-leb, cond-true, cond-false, cond-both, cases-bool, cases-lt, and-from, and-parts}
+use Rattle.std.proofs.shelf.Tests.{ltb-true, ltb-false, leb-true, leb-false, lt-ltb, le-ltb, lt-leb, cond-true, cond-false, cond-both, cases-bool, cases-lt, and-from, and-parts}
 use Rattle.std.proofs.shelf.Ways.{tells}
 use Rattle.steps.specs.declared.fault.Fault.{Fault}
 use Rattle.steps.specs.declared.answer.Step.{Step}
@@ -171,6 +171,20 @@ end-left stop stride (item a ∷ ss) next cur =
     cond-three Ended (over stop next cur) _ _ _ _ _ _
     (λ o e. refl)
     (λ o. cond-three Ended (ltb cur (number next)) _ _ _ _ _ _ (λ l. end-left stop stride ss next (cur + 1)) (λ l e. absurd (no-cons _ _ e)))
+
+-- and another call draws nothing
+abbrev Rests : {A : Type 0} → Option ℕ → ℕ → List (Step A) → SliceAfter A → Type 0
+Rests stop stride gives r = gives ≡ [] → slice-after stop stride (r .next) (r .cur) (r .left) .left ≡ r .left
+
+pub end-rests : {A : Type 0} (stop : Option ℕ) (stride : ℕ) (ss : List (Step A)) (next : Option ℕ) (cur : ℕ) →
+    Rests stop stride (slices stop stride next cur ss) (slice-after stop stride next cur ss)
+end-rests {A} stop stride [] next cur = λ e. refl
+end-rests {A} stop stride (fault f ∷ ss) next cur =
+    cond-two (Rests stop stride) (over stop next cur) _ _ _ _ (λ o e. ap (λ (r : SliceAfter A). r .left) (cond-true _ _ _ o)) (λ o e. absurd (no-cons _ _ e))
+end-rests {A} stop stride (item a ∷ ss) next cur =
+    cond-two (Rests stop stride) (over stop next cur) _ _ _ _
+    (λ o e. ap (λ (r : SliceAfter A). r .left) (cond-true _ _ _ o))
+    (λ o. cond-two (Rests stop stride) (ltb cur (number next)) _ _ _ _ (λ l. end-rests stop stride ss next (cur + 1)) (λ l e. absurd (no-cons _ _ e)))
 
 -- with a stop, as many items are drawn as lie before it
 past-none : {A : Type 0} (n : ℕ) → past {A = A} n [] ≡ []

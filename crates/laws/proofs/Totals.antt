@@ -1,6 +1,6 @@
 -- The totals of accumulate.
-use mathlib.Core.Path.{_≡_, refl, sym, ap, subst, _∙_}
-use mathlib.Core.List.{List, [], _∷_, _++_, map}
+use mathlib.Core.Path.{_≡_, refl, ap, subst, _∙_}
+use mathlib.Core.List.{List, [], _∷_, map}
 use Prim.Native.Nat.{ℕ, zero, suc, _+_, _<_}
 use native.Mathlib.Numerals.{add-one}
 use native.Mathlib.Omega.{arith}
@@ -12,8 +12,8 @@ use Rattle.std.specs.declared.result.Result.{Result}
 use Rattle.std.specs.declared.result.Result.the-variants.{Ok, Err}
 use Rattle.steps.specs.declared.fault.Fault.{Fault}
 use Rattle.steps.specs.declared.answer.Step.{Step}
-use Rattle.steps.specs.declared.answer.Step.the-variants.{Item as item, Fault as fault}
-use Rattle.laws.specs.Accumulate.{join-on, totals, from-first, from-initial, joined-all, with-initial, join-of, RunningTotals}
+use Rattle.steps.specs.declared.answer.Step.the-variants.{Item as item}
+use Rattle.laws.specs.Accumulate.{join-on, totals, from-initial, joined-all, with-initial, join-of, RunningTotals}
 
 -- a fault on the way is the fault of the whole
 err-stays : {A : Type 0} (j : A → A → Result A Fault) (f : Fault) (xs : List A) (v : A) → joined-all j (Err f) xs ≡ Ok v → ⊥

@@ -1,10 +1,8 @@
 -- accumulate: the initial value, if any, then each item joined to the total.
 use mathlib.Core.Path.{_≡_}
-use mathlib.Core.Bool.{Bool, true, false, cond}
-use mathlib.Core.List.{List, [], _∷_, _++_, map}
-use Prim.Native.Nat.{ℕ, zero, suc, _+_, _*_, _-_, _^_, _≤_, _<_}
-use lib.Dec.{ltb, leb}
-use lib.ListN.{length, take, drop}
+use mathlib.Core.List.{List, [], _∷_, map}
+use Prim.Native.Nat.{ℕ, _+_, _-_, _<_}
+use lib.ListN.{length, take}
 use Rattle.std.specs.Finite.{nth}
 use Rattle.std.specs.declared.option.Option.{Option}
 use Rattle.std.specs.declared.option.Option.the-variants.{Some, None}
@@ -14,7 +12,6 @@ use Rattle.steps.specs.declared.fault.Fault.{Fault}
 use Rattle.steps.specs.declared.answer.Step.{Step}
 use Rattle.steps.specs.declared.answer.Step.the-variants.{Item as item, Fault as fault}
 use Rattle.steps.specs.Steps.{rest}
-use Rattle.laws.specs.Items.{given}
 
 -- a joining's fault replaces its item and leaves the total
 abbrev pub join-on : {A : Type 0} → Result A Fault → A → (A → List (Step A)) → List (Step A)

@@ -1,20 +1,17 @@
 -- compress: the data whose selectors a predicate accepts.
 use mathlib.Core.Path.{_≡_}
 use mathlib.Core.Bool.{Bool, true, false, cond}
-use mathlib.Core.List.{List, [], _∷_, _++_, map}
-use Prim.Native.Nat.{ℕ, zero, suc, _+_, _*_, _-_, _^_, _≤_, _<_}
-use lib.Dec.{ltb, leb}
-use lib.ListN.{length, take, drop}
+use mathlib.Core.List.{List, [], _∷_, map}
+use Prim.Native.Nat.{ℕ, zero, suc, _+_, _-_}
+use lib.ListN.{length, drop}
 use Rattle.std.specs.Finite.{nth}
-use Rattle.std.specs.declared.option.Option.{Option}
-use Rattle.std.specs.declared.option.Option.the-variants.{Some, None}
+use Rattle.std.specs.declared.option.Option.the-variants.{Some}
 use Rattle.std.specs.declared.result.Result.{Result}
 use Rattle.std.specs.declared.result.Result.the-variants.{Ok, Err}
 use Rattle.steps.specs.declared.fault.Fault.{Fault}
 use Rattle.steps.specs.declared.answer.Step.{Step}
 use Rattle.steps.specs.declared.answer.Step.the-variants.{Item as item, Fault as fault}
-use Rattle.steps.specs.Steps.{rest}
-use Rattle.laws.specs.Items.{given, Decided}
+use Rattle.laws.specs.Items.{Decided}
 
 -- a selector that is denied loses its datum, and so does a predicate's fault, which takes the pair's place
 abbrev pub keep-on : {A : Type 0} → Result Bool Fault → A → List (Step A) → List (Step A)

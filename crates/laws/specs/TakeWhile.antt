@@ -2,12 +2,7 @@
 use mathlib.Core.Path.{_≡_}
 use mathlib.Core.Bool.{Bool, true, false, cond}
 use mathlib.Core.List.{List, [], _∷_, _++_, map}
-use Prim.Native.Nat.{ℕ, zero, suc, _+_, _*_, _-_, _^_, _≤_, _<_}
-use lib.Dec.{ltb, leb}
-use lib.ListN.{length, take, drop}
-use Rattle.std.specs.Finite.{nth}
-use Rattle.std.specs.declared.option.Option.{Option}
-use Rattle.std.specs.declared.option.Option.the-variants.{Some, None}
+use Prim.Native.Nat.{_+_, _-_}
 use Rattle.std.specs.declared.result.Result.{Result}
 use Rattle.std.specs.declared.result.Result.the-variants.{Ok, Err}
 use Rattle.steps.specs.declared.fault.Fault.{Fault}
@@ -52,5 +47,5 @@ takes-stopped p stopped ss = cond stopped true (takes-stops p ss)
 -- Over a source without faults and a predicate that answers yes or no: what is given is the longest
 -- front that the predicate accepts. The items are that front and what is behind it, which is nothing or begins with a denied item.
 abbrev pub LongestFront : {A : Type 0} → (A → Result Bool Fault) → List (Step A) → List (Step A) → Type 0
-LongestFront {A} p ss given = (xs : List A) → ss ≡ map item xs → Decided p xs →
-    (front : List A) × (behind : List A) × (xs ≡ front ++ behind) × Accepted p front × Denied p behind × (given ≡ map item front)
+LongestFront {A} p ss gives = (xs : List A) → ss ≡ map item xs → Decided p xs →
+    (front : List A) × (behind : List A) × (xs ≡ front ++ behind) × Accepted p front × Denied p behind × (gives ≡ map item front)

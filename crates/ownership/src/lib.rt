@@ -78,7 +78,7 @@ pub fn over_zip_longest(mut zip_left: Range, mut zip_right: Range) -> ZipLongest
     over
 }
 
-pub fn over_islice(mut from_islice: Range) -> Result<Islice<Range>, Refusal> {
+pub fn over_islice(mut from_islice: Range) -> Result<Islice<Range>, (Refusal, Range)> {
     let mut over = Islice::new(from_islice, &[Some(3)])?;
     let _ = over.next(); // islice
     Ok(over)

@@ -1,2 +1,3 @@
 mod Joints
 mod Passing
+mod Verdicts

@@ -1,23 +1,23 @@
 -- A plan whose findings are all zero is sound, and no other.
 use mathlib.Core.Path.{_≡_, refl, sym, ap, subst, _∙_}
-use mathlib.Core.Bool.{Bool, true, false, cond, _&&_}
+use mathlib.Core.Bool.{Bool, true, false, cond}
 use mathlib.Core.List.{List, [], _∷_}
-use mathlib.Core.Logic.{_⊎_, inl, inr, ⊎-elim}
+use mathlib.Core.Logic.{_⊎_, ⊎-elim}
 use Prim.Native.Nat.{ℕ, zero, suc, _+_, _-_, _<_, _≤_}
 use native.Mathlib.Numerals.{add-one}
 use native.Mathlib.Omega.{arith}
-use lib.Dec.{ltb, leb, eqb}
+use lib.Dec.{ltb, eqb}
 use lib.ListN.{length}
 use Rattle.std.specs.Finite.{nth}
 use Rattle.std.specs.declared.option.Option.the-variants.{Some, None}
 use Rattle.std.proofs.shelf.Lists.{nil-from-length}
-use Rattle.std.proofs.shelf.Tests.{ltb-true, ltb-false, leb-false, lt-leb, lt-ltb, le-ltb, eqb-true, eqb-false, eq-eqb, ne-eqb, cond-true, cond-false, cond-both, cases-bool, cases-lt, and-parts, and-from, both-ways}
+use Rattle.std.proofs.shelf.Tests.{ltb-true, ltb-false, leb-false, lt-leb, le-ltb, eqb-true, eq-eqb, ne-eqb, cond-true, cond-false, cond-both, cases-bool, cases-lt, and-parts, and-from, both-ways}
 use Rattle.steps.specs.declared.fault.Fault.{Fault}
 use Rattle.sources.specs.declared.block.Block.{Block}
 use Rattle.plan.specs.declared.seam.Seam.{Seam}
 use Rattle.plan.specs.declared.seam.Seam.the-variants.{OtherBay, BayOutOfOrder, Overlap, Gap}
 use Rattle.plan.specs.declared.seam.Finding.{Finding}
-use Rattle.plan.specs.declared.seam.Finding.the-variants.{Pair, Overlapping, OutOfOrder, LongGap}
+use Rattle.plan.specs.declared.seam.Finding.the-variants.{Overlapping, OutOfOrder, LongGap}
 use Rattle.plan.specs.Seams.{seam-of, joints, is-finding, one-if, count}
 use Rattle.plan.specs.Plans.{EveryTwo, of-bay, Close, Sound, tally-of, all-clear}
 

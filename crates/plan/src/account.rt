@@ -86,7 +86,7 @@ impl Tally {
 
 // Reads a plan from its record bytes, and lays every two neighbouring blocks side by side.
 pub fn check(heap: Global, bytes: &[u8]) -> Result<Account, AllocError>
-    ensures { λ r. ⌜ made r (λ a. accounts-for (now (bytes .entry)) a) ⌝ }
+    ensures unless_out_of_memory { λ r. ⌜ made r (λ a. accounts-for (now (bytes .entry)) a) ⌝ }
 {
     let (blocks, faults) = read_plan(heap, bytes)?;
     let joints = lay_out(heap, blocks.as_slice())?;

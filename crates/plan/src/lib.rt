@@ -2,6 +2,7 @@
 // by side, and whether the plan passes.
 
 mod account;
+mod outcome;
 mod seam;
 mod split;
 mod text;
@@ -9,8 +10,8 @@ mod text;
 pub use account::Account;
 pub use account::Tally;
 pub use account::check;
+pub use outcome::verdict;
 pub use seam::Finding;
 pub use seam::Joint;
 pub use seam::Seam;
-pub use text::verdict;
 pub use text::write_account;

@@ -1,23 +1,11 @@
-ghost use mathlib.Core.Path.{_≡_};
-ghost use mathlib.Core.Bool.{true, false};
-ghost use mathlib.Core.List.{List, _++_};
-ghost use Prim.Native.Nat.{ℕ};
-ghost use lib.Chars.{codes};
-ghost use Rattle.std.specs.Of.String.{string-bytes};
-ghost use Rattle.std.specs.Vec.{made};
-ghost use Rattle.plan.specs.Plans.{all-clear};
 use crate::account::Account;
-use crate::account::Tally;
 use crate::seam::Joint;
 use crate::seam::Seam;
 use sources::Block;
-use std::alloc::AllocError;
 use std::alloc::Global;
 use std::fmt;
 use std::fmt::Write;
 use steps::Fault;
-
-const FAILED: &str = "plan failed";
 
 // A minute of the day, as hh:mm.
 #[derive(Clone, Copy)]
@@ -108,42 +96,4 @@ pub fn write_account(heap: Global, account: &Account) -> Result<String, fmt::Err
     let pairs = account.tally.pairs;
     writeln!(out, "pairs: {pairs}")?;
     Ok(out)
-}
-
-// One more reason for which a plan failed, if there is any of it.
-fn add_reason(heap: Global, line: &mut String, count: usize, reason: &str) -> Result<(), AllocError>
-    ensures grows { λ _. ⌜ ((tail : List ℕ) × (string-bytes (now (line .exit)) ≡ string-bytes (now (line .entry)) ++ tail)) ⌝ }
-{
-    if count == 0 {
-        return Ok(());
-    }
-    let mark = if line.len() == FAILED.len() {
-        ": "
-    } else {
-        ", "
-    };
-    let text = format!(heap, "{mark}{reason} {count}")?;
-    line.push_str(text.as_str())
-}
-
-// The one line that planners read: `plan passed`, or `plan failed` and why.
-pub fn verdict(heap: Global, tally: Tally) -> Result<String, AllocError>
-    ensures { λ r. ⌜ made r (λ s.
-        (all-clear tally ≡ true → string-bytes s ≡ codes "plan passed")
-        × (all-clear tally ≡ false → (why : List ℕ) × (string-bytes s ≡ codes "plan failed" ++ why))) ⌝ }
-{
-    if tally.passed() {
-        return String::from_str(heap, "plan passed");
-    }
-    let mut line = String::from_str(heap, FAILED)?;
-    add_reason(heap, &mut line, tally.faults, "faulty records")?;
-    add_reason(heap, &mut line, tally.overlaps, "overlaps")?;
-    add_reason(heap, &mut line, tally.out_of_order, "bays out of order")?;
-    add_reason(
-        heap,
-        &mut line,
-        tally.long_gaps,
-        "gaps of ten minutes or more",
-    )?;
-    Ok(line)
 }

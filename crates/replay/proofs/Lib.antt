@@ -1,1 +1,2 @@
 mod Transcripts
+mod Origins

@@ -76,7 +76,7 @@ pub fn islice(heap: Global, arguments: &str, ahead: &str, out: &mut String) -> R
     let mut source = Script::new(ahead.as_slice());
     match Islice::new(&mut source, arguments.as_slice()) {
         Ok(mut slice) => play(&mut slice, out)?,
-        Err(refusal) => return show_refusal(refusal, out),
+        Err((refusal, _)) => return show_refusal(refusal, out),
     }
     show_left(source.left(), out)
 }

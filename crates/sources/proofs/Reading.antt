@@ -1,16 +1,14 @@
 -- What record bytes mean does not hang on the bound that the reading counts down, and is what the relation says.
 use mathlib.Core.Path.{_≡_, refl, sym, ap, subst, _∙_}
 use mathlib.Core.Bool.{Bool, true, false, cond}
-use mathlib.Core.List.{List, [], _∷_, _++_}
+use mathlib.Core.List.{List, [], _∷_}
 use Prim.Native.Nat.{ℕ, zero, suc, _+_, _-_, _<_, _≤_}
 use native.Mathlib.Omega.{arith}
 use lib.Dec.{ltb}
 use lib.ListN.{length, getD, take, drop, length-drop}
 use Rattle.std.proofs.shelf.Lists.{take-append-drop, length-take-le, take-rest, drop-all, drop-drop}
 use Rattle.std.proofs.shelf.Tests.{ltb-true, ltb-false, lt-ltb, le-ltb, cond-true, cond-false}
-use Rattle.steps.specs.declared.answer.Step.{Step}
-use Rattle.steps.specs.declared.answer.Step.the-variants.{Item as item, Fault as fault}
-use Rattle.sources.specs.declared.block.Block.{Block}
+use Rattle.steps.specs.declared.answer.Step.the-variants.{Fault as fault}
 use Rattle.sources.specs.Records.{word, broken, record-step, reading, records-from, Reads, no-bytes, cut-header, cut-payload, one-record}
 
 pub fuel : (n m place : ℕ) (bytes : List ℕ) → length bytes ≤ n → length bytes ≤ m → reading n place bytes ≡ reading m place bytes

@@ -1,12 +1,15 @@
 ghost use mathlib.Core.Path.{_≡_};
 ghost use mathlib.Core.Bool.{Bool, true};
 ghost use Rattle.std.specs.declared.result.Result.{Result as AResult};
+ghost use Rattle.std.specs.declared.result.Result.the-variants.{Err as is-err};
 ghost use Rattle.steps.specs.declared.fault.Fault.{Fault as AFault};
 use crate::fault::Fault;
 
 // Yes, no or a fault for each item, by a meaning that never changes.
 pub trait Predicate<T> {
     ghost says: { Self → T → AResult Bool AFault };
+
+    law origin: { (s : Self) (a : T) (f : AFault) → says s a ≡ is-err f → (f .origin ≡ 2) × (f .place ≡ 0) };
 
     fn test(&self, item: T) -> Result<bool, Fault>
         ensures { λ r. ⌜ r ≡ says (now (self .entry)) item ⌝ };
@@ -17,6 +20,8 @@ pub trait Keying<T> {
     type Key;
 
     ghost key: { Self → T → AResult Self·Key AFault };
+
+    law origin: { (s : Self) (a : T) (f : AFault) → key s a ≡ is-err f → (f .origin ≡ 3) × (f .place ≡ 0) };
 
     ghost same: { Self·Key → Self·Key → Bool };
 
@@ -36,6 +41,8 @@ pub trait Keying<T> {
 // A value or a fault for two values, the total so far and the item that comes to it.
 pub trait Joining<T> {
     ghost joins: { Self → T → T → AResult T AFault };
+
+    law origin: { (s : Self) (a b : T) (f : AFault) → joins s a b ≡ is-err f → (f .origin ≡ 4) × (f .place ≡ 0) };
 
     fn join(&self, total: T, item: T) -> Result<T, Fault>
         ensures { λ r. ⌜ r ≡ joins (now (self .entry)) total item ⌝ };

@@ -1,7 +1,7 @@
 ghost use mathlib.Core.Path.{_≡_};
 ghost use mathlib.Core.List.{List, [], _++_};
 ghost use Rattle.std.specs.Of.Vec.{vec-items};
-ghost use Rattle.std.specs.Results.{Cases as by-result};
+ghost use Rattle.std.specs.Vec.{made};
 ghost use Rattle.steps.specs.Steps.{answered};
 ghost use Rattle.steps.specs.declared.answer.Step.{Step as AStep};
 use crate::answer::Answer;
@@ -26,9 +26,8 @@ fn step_of<T: Drop>(answer: Result<Answer<T>, Fault>) -> Option<Step<T>>
 pub fn collect<S: Source>(heap: Global, source: &mut S) -> Result<Vec<Step<S::Item>>, AllocError>
 where
     S::Item: Drop,
-    ensures gives { λ r. ⌜ by-result r
-        (λ v. (vec-items v ≡ S·Source .ahead (now (source .entry))) × (S·Source .ahead (now (source .exit)) ≡ []))
-        (λ _. (front : List (AStep S·Item)) × (S·Source .ahead (now (source .entry)) ≡ front ++ S·Source .ahead (now (source .exit)))) ⌝ }
+    ensures gives { λ r. ⌜ made r (λ v. (vec-items v ≡ S·Source .ahead (now (source .entry))) × (S·Source .ahead (now (source .exit)) ≡ [])) ⌝ }
+    ensures described_without_memory { λ _. ⌜ ((front : List (AStep S·Item)) × (S·Source .ahead (now (source .entry)) ≡ front ++ S·Source .ahead (now (source .exit)))) ⌝ }
 {
     let mut steps = Vec::new(heap);
     while let Some(step) = step_of(source.next()) {

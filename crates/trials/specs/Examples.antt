@@ -3,18 +3,15 @@ use mathlib.Core.Path.{_≡_}
 use mathlib.Core.Bool.{Bool, true, false}
 use mathlib.Core.List.{List, [], _∷_, map}
 use Prim.Native.Nat.{ℕ, zero, suc}
-use Rattle.std.specs.declared.option.Option.{Option}
-use Rattle.std.specs.declared.option.Option.the-variants.{Some, None}
+use Rattle.std.specs.declared.option.Option.the-variants.{Some}
 use Rattle.std.specs.declared.result.Result.{Result}
-use Rattle.std.specs.declared.result.Result.the-variants.{Ok, Err}
+use Rattle.std.specs.declared.result.Result.the-variants.{Ok}
 use Rattle.steps.specs.declared.fault.Fault.{Fault}
-use Rattle.steps.specs.declared.answer.Step.{Step}
 use Rattle.steps.specs.declared.answer.Step.the-variants.{Item as item, Fault as fault}
-use Rattle.laws.specs.Islice.{Bounds, bounds, until, slices, slice-end}
-use Rattle.laws.specs.Compress.{CompressLeft, compressed, compress-end}
+use Rattle.laws.specs.Islice.{bounds, until, slices, slice-end}
+use Rattle.laws.specs.Compress.{compressed, compress-end}
 use Rattle.laws.specs.Pairwise.{unpaired}
 use Rattle.laws.specs.ZipLongest.{zipped}
-use Rattle.sources.specs.declared.block.Block.{Block}
 use Rattle.sources.specs.Ranges.{numbers}
 use Rattle.sources.specs.Records.{records-from, broken}
 

@@ -56,14 +56,16 @@ const BROKEN: Fault = Fault {
 fn refusal(arguments: &[Option<u64>]) -> Option<u8> {
     match Islice::new(Range::new(0, 9), arguments) {
         Ok(_) => None,
-        Err(refusal) => Some(refusal.number()),
+        Err((refusal, _)) => Some(refusal.number()),
     }
 }
 
 #[test]
 fn a_slice_draws_up_to_its_stop() -> Result<(), Fail> {
     let mut numbers = Range::new(0, 10);
-    let mut slice = Islice::new(&mut numbers, &[Some(0), Some(5), Some(3)])?;
+    let Ok(mut slice) = Islice::new(&mut numbers, &[Some(0), Some(5), Some(3)]) else {
+        return Err(Fail::new("refused"));
+    };
     check_eq(slice.next(), Ok(Answer::Item(0)))?;
     check_eq(slice.next(), Ok(Answer::Item(3)))?;
     check_eq(slice.next(), Ok(Answer::End))?;
@@ -72,7 +74,9 @@ fn a_slice_draws_up_to_its_stop() -> Result<(), Fail> {
 
 #[test]
 fn a_start_past_the_stop_draws_up_to_the_start() -> Result<(), Fail> {
-    let (mut rest, met) = consume(Range::new(0, 10), &[Some(3), Some(1)])?;
+    let Ok((mut rest, met)) = consume(Range::new(0, 10), &[Some(3), Some(1)]) else {
+        return Err(Fail::new("refused"));
+    };
     check_eq(met, None)?;
     check_eq(rest.next(), Ok(Answer::Item(3)))
 }
@@ -179,7 +183,9 @@ fn six_adapters_bring_a_record_fault_up_unchanged() -> Result<(), Fail> {
     let dropped = DropWhile::new(LastsAtLeast { minutes: 1000 }, Records::new(&PLAN));
     let taken = TakeWhile::new(LastsAtLeast { minutes: 1 }, dropped);
     let chained = Chain::new(taken, Records::new(&[]));
-    let sliced = Islice::new(chained, &[None])?;
+    let Ok(sliced) = Islice::new(chained, &[None]) else {
+        return Err(Fail::new("refused"));
+    };
     let kept = Compress::new(sliced, Range::new(0, 9), Below { limit: 9 });
     let mut paired = Pairwise::new(kept);
     let place_12 = Fault {

@@ -1,4 +1,4 @@
-use mathlib.Core.Path.{_≡_, refl, sym, ap, subst, _∙_}
+use mathlib.Core.Path.{_≡_, sym, ap, subst, _∙_}
 use Rattle.std.specs.declared.option.Option.the-variants.{Some}
 use Rattle.laws.specs.Items.{first-fault}
 use Rattle.laws.specs.Islice.{slices, slice-end, until, DrawnByEnd}

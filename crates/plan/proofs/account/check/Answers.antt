@@ -1,4 +1,4 @@
-use mathlib.Core.Path.{_≡_, refl, sym, ap, _∙_}
+use mathlib.Core.Path.{_≡_, sym, ap, _∙_}
 use native.Mathlib.Omega.{arith}
 use lib.ListN.{length}
 use Rattle.std.specs.Finite.{nth}
@@ -22,12 +22,14 @@ returns c =
     let tally : c .of-tally .result ≡ tally-of (length (faults rs)) (joints (items rs)) =
     c .of-tally .ensures ∙ ap (λ n. tally-of n (c .as-slice-2 .result .now)) many ∙ ap (tally-of (length (faults rs))) (c .as-slice-2 .ensures .value ∙ laid) in
     record {
-      read = reads (length bytes) 0 bytes (omega arith);
-      blocks-are = b .0;
-      faults-are = b .1;
-      joints-are = laid;
-      every-pair = λ k. ap (λ js. nth js k) laid ∙ every-joint (items rs) k;
-      tally-is = tally;
-      passed = λ e. clear-is-sound (faults rs) (items rs) (ap all-clear (sym tally) ∙ e);
-      only-then = λ f s. ap all-clear tally ∙ sound-is-clear (faults rs) (items rs) f s;
+      unless-out-of-memory = record {
+        read = reads (length bytes) 0 bytes (omega arith);
+        blocks-are = b .0;
+        faults-are = b .1;
+        joints-are = laid;
+        every-pair = λ k. ap (λ js. nth js k) laid ∙ every-joint (items rs) k;
+        tally-is = tally;
+        passed = λ e. clear-is-sound (faults rs) (items rs) (ap all-clear (sym tally) ∙ e);
+        only-then = λ f s. ap all-clear tally ∙ sound-is-clear (faults rs) (items rs) f s;
+      };
     }

@@ -1,11 +1,9 @@
-use mathlib.Core.Path.{_≡_, sym, ap, _∙_}
-use Prim.Native.Nat.{_+_}
+use mathlib.Core.Path.{sym, ap, _∙_}
 use native.Mathlib.Omega.{arith}
-use lib.ListN.{getD}
 use Rattle.std.proofs.shelf.Lists.{at-drop-all}
 use Rattle.plan.specs.declared.seam.Joint.{Joint}
 use Rattle.plan.specs.declared.seam.Seam.the-variants.{OtherBay}
-use Rattle.plan.specs.Seams.{is-finding, one-if, count}
+use Rattle.plan.specs.Seams.{one-if, count}
 use Rattle.plan.proofs.Joints.{count-more}
 use Rattle.plan.proofs.seam.count_findings.Needs as need
 use Rattle.plan.proofs.seam.count_findings.Needs.{then-is, else-is}

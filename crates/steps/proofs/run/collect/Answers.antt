@@ -1,4 +1,4 @@
-use mathlib.Core.Path.{_≡_, refl, sym, ap, subst, _∙_}
+use mathlib.Core.Path.{_≡_, sym, ap, _∙_}
 use mathlib.Core.List.{[], _∷_, _++_}
 use Rattle.std.specs.Of.Vec.{vec-items}
 use Rattle.std.specs.declared.option.Option.the-variants.{Some}
@@ -21,4 +21,7 @@ returns-in-Break-push g c =
     let f : answered (first ss) ≡ Some (c .in-Some .step) = ap answered (sym (c .next .ensures .gives)) ∙ sym (c .in-Some .ensures tt) in
     let d = drawn-more _ (vec-items (c .loop-step .steps)) ss (c .in-Some .step) (c .loop-step .inv) f in
     let p = err-from-errBy (c .from-residual .result) (c .from-residual .ensures .1) in
-    record { gives = rw (p .1) (vec-items (c .loop-step .steps) ++ c .in-Some .step ∷ [], d ∙ ap (λ us. (vec-items (c .loop-step .steps) ++ c .in-Some .step ∷ []) ++ us) (sym (c .next .ensures .leaves))) }
+    record {
+      gives = rw (p .1) tt;
+      described-without-memory = (vec-items (c .loop-step .steps) ++ c .in-Some .step ∷ [], d ∙ ap (λ us. (vec-items (c .loop-step .steps) ++ c .in-Some .step ∷ []) ++ us) (sym (c .next .ensures .leaves)));
+    }

@@ -1,10 +1,10 @@
-use mathlib.Core.Path.{_≡_, refl, sym, ap, subst, _∙_}
+use mathlib.Core.Path.{_≡_, sym, ap, subst, _∙_}
 use mathlib.Core.Bool.{true, false}
 use mathlib.Core.List.{[]}
 use borrow.Author.Needs.{needs}
 use Rattle.std.specs.declared.result.Result.the-variants.{Ok}
 use Rattle.steps.specs.declared.answer.Answer.the-variants.{End}
-use Rattle.steps.specs.Steps.{first, rest}
+use Rattle.steps.specs.Steps.{first}
 use Rattle.laws.specs.Items.{earlier, first-fault, kept-first}
 use Rattle.laws.specs.Compress.{compresses, compress-after, compress-ends, CompressDraws}
 use Rattle.laws.proofs.Answers.{end-first, earlier-none, first-kept}

@@ -1,4 +1,4 @@
-use mathlib.Core.Path.{_≡_, refl, sym, ap, subst, _∙_}
+use mathlib.Core.Path.{refl, sym, subst}
 use Rattle.std.specs.declared.option.Option.the-variants.{Some}
 use Rattle.laws.specs.Islice.{Bounds, EveryStep, slices}
 use Rattle.laws.proofs.Slices.{gives-every-step}

@@ -2,7 +2,6 @@ use mathlib.Core.Path.{_≡_, sym, ap, _∙_}
 use mathlib.Core.List.{_∷_}
 use Rattle.std.specs.declared.option.Option.the-variants.{None}
 use Rattle.std.specs.declared.result.Result.the-variants.{Ok}
-use Rattle.steps.specs.declared.answer.Answer.the-variants.{Item}
 use Rattle.steps.specs.declared.answer.Step.the-variants.{Item as item}
 use Rattle.steps.specs.Steps.{first, rest}
 use Rattle.laws.specs.Pairwise.{pairs, unpaired, unpaired-left, pairs-left, next-old, first-old, pairs-old}

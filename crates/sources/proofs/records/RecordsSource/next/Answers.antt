@@ -1,11 +1,11 @@
-use mathlib.Core.Path.{_≡_, sym, ap, _∙_}
+use mathlib.Core.Path.{sym, ap, _∙_}
 use Prim.Native.Nat.{_-_, _<_, _≤_}
 use native.Mathlib.Omega.{arith}
 use borrow.Author.Needs.{needs}
 use lib.ListN.{length, take}
 use Rattle.std.specs.declared.result.Result.the-variants.{Err}
 use Rattle.steps.specs.Steps.{answer, first, rest}
-use Rattle.sources.specs.Records.{records-from, record-step}
+use Rattle.sources.specs.Records.{record-step}
 use Rattle.sources.proofs.Reading.{tail-at, behind, from-tail, nothing-left, header-cut, payload-cut, whole-record, next-record}
 use Rattle.sources.proofs.records.RecordsSource.next.Needs as need
 

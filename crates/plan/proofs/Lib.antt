@@ -1,3 +1,5 @@
 mod Joints
+mod Lines
 mod Passing
+mod Reports
 mod Verdicts

@@ -1,3 +1,6 @@
 pub mod Seams
 pub mod Plans
+pub mod Parts
+pub mod Texts
 pub mod Verdicts
+pub mod Reports

@@ -2,6 +2,7 @@
 // by side, and whether the plan passes.
 
 mod account;
+mod columns;
 mod outcome;
 mod seam;
 mod split;
@@ -10,6 +11,7 @@ mod text;
 pub use account::Account;
 pub use account::Tally;
 pub use account::check;
+pub use outcome::report;
 pub use outcome::verdict;
 pub use seam::Finding;
 pub use seam::Joint;

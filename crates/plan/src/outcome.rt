@@ -6,10 +6,16 @@ ghost use lib.Chars.{codes};
 ghost use Rattle.std.specs.Of.String.{string-bytes};
 ghost use Rattle.std.specs.Vec.{made};
 ghost use Rattle.plan.specs.Plans.{all-clear};
+ghost use Rattle.sources.specs.Records.{records-from};
+ghost use Rattle.plan.specs.Reports.{report-text};
 ghost use Rattle.plan.specs.Verdicts.{with-reason, verdict-line};
 use crate::account::Tally;
+use crate::account::check;
+use crate::text::write_account;
 use std::alloc::AllocError;
 use std::alloc::Global;
+use std::fmt;
+use std::fmt::Write;
 
 const FAILED: &str = "plan failed";
 
@@ -50,4 +56,19 @@ pub fn verdict(heap: Global, tally: Tally) -> Result<String, AllocError>
         "gaps of ten minutes or more",
     )?;
     Ok(line)
+}
+
+// Checks a plan from its record bytes, and gives all that is to be said of it: the account, and the verdict as its last line.
+pub fn report(heap: Global, bytes: &[u8]) -> Result<String, fmt::Error>
+    ensures unless_out_of_memory { λ r. ⌜ made r (λ s. string-bytes s ≡ report-text (records-from (now (bytes .entry)) 0)) ⌝ }
+{
+    let Ok(account) = check(heap, bytes) else {
+        return Err(fmt::Error);
+    };
+    let mut text = write_account(heap, &account)?;
+    let Ok(line) = verdict(heap, account.tally) else {
+        return Err(fmt::Error);
+    };
+    writeln!(text, "{line}")?;
+    Ok(text)
 }

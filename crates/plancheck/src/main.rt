@@ -3,36 +3,28 @@
 
 mod sample;
 
-use plan::check;
-use plan::verdict;
-use plan::write_account;
+use plan::report;
 use sample::SAMPLE;
 use std::env;
 use std::error::AnyError;
 use std::fs;
 
-// Checks the plan, and prints what was found.
-fn report(rt: &LibcRuntime, bytes: &[u8]) -> Result<(), AnyError> {
-    let heap = rt.alloc();
-    let account = check(heap, bytes)?;
-    rt.print(write_account(heap, &account)?)?;
-    rt.println(verdict(heap, account.tally)?)?;
-    Ok(())
-}
-
 fn run(rt: &LibcRuntime) -> Result<(), AnyError> {
+    let heap = rt.alloc();
     let mut args = env::args(rt)?;
     let _program = args.next();
     let Some(path) = args.next() else {
-        return report(rt, &SAMPLE);
+        rt.print(report(heap, &SAMPLE)?)?;
+        return Ok(());
     };
     if args.next().is_some() {
         return Err("usage: plancheck [PLAN]".into());
     }
     match fs::read(rt, path.as_str()) {
-        Ok(bytes) => report(rt, bytes.as_slice()),
-        Err(error) => Err(format!(rt.alloc(), "{path}: {error}")?.into()),
+        Ok(bytes) => rt.print(report(heap, bytes.as_slice())?)?,
+        Err(error) => return Err(format!(heap, "{path}: {error}")?.into()),
     }
+    Ok(())
 }
 
 fn main(rt: LibcRuntime) -> Result<(), AnyError> {

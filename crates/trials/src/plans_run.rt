@@ -1,7 +1,6 @@
-use plan::Tally;
 use plan::check as check_plan;
+use plan::report;
 use plan::verdict;
-use sources::Block;
 use std::alloc::Global;
 use std::test::*;
 
@@ -76,4 +75,28 @@ fn plans_of_few_bytes(rt: LibcRuntime) -> Result<(), Fail> {
         verdict_on(heap, &[0, 0, 9, 9, 1])?.as_str(),
         "plan failed: faulty records 2",
     )
+}
+
+const FAILING: &str = "blocks: 3
+  bay     2  bus     7  06:00-06:10
+  bay     2  bus     7  06:09-06:40
+  bay     1  bus     7  01:40-03:20
+faulty records: 1
+  byte      12  cause 3: another kind of record
+neighbours
+  bay     2  bus     7  06:00-06:10  then bus     7  06:09-06:40  starts 1 min too early
+  bay     2  is followed by bay 1: out of order
+pairs: 1
+plan failed: faulty records 1, overlaps 1, bays out of order 1
+";
+
+#[test]
+fn a_failing_plan_is_told_in_full(rt: LibcRuntime) -> Result<(), Fail> {
+    let heap = rt.alloc();
+    let mut bytes = Vec::new(heap);
+    add_block(&mut bytes, 2, 360, 370)?;
+    bytes.extend_from_slice(&[0, 0, 0x11, 0])?;
+    add_block(&mut bytes, 2, 369, 400)?;
+    add_block(&mut bytes, 1, 100, 200)?;
+    check_eq(report(heap, bytes.as_slice())?.as_str(), FAILING)
 }

@@ -1,0 +1,17 @@
+use Rattle.std.specs.Of.String.{string-bytes}
+use Rattle.std.specs.Of.Vec.{vec-items}
+use Rattle.sources.specs.Records.{records-from}
+use Rattle.plan.proofs.Reports.{reported}
+use Rattle.plan.proofs.outcome.report.Needs as need
+
+pub returns : need.returns
+returns c =
+    let account = c .in-Ok .account in
+    let k = c .in-Ok .ensures tt .unless-out-of-memory in
+    record {
+      unless-out-of-memory =
+          reported (records-from (c .args .bytes .now) 0) (vec-items (account .blocks)) (vec-items (account .faults)) (vec-items (account .joints)) (account .tally)
+          (string-bytes (c .in-Continue-text .text)) (string-bytes (c .in-Ok-verdict .line)) (string-bytes (c .writeln .last .self))
+          (k .blocks-are) (k .faults-are) (k .joints-are) (k .tally-is)
+          (c .in-Continue-text .ensures tt .unless-out-of-memory) (c .in-Ok-verdict .ensures tt .unless-out-of-memory) (c .in-Continue-writeln .ensures tt .bytes);
+    }

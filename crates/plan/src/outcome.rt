@@ -7,7 +7,7 @@ ghost use Rattle.std.specs.Of.String.{string-bytes};
 ghost use Rattle.std.specs.Vec.{made};
 ghost use Rattle.plan.specs.Plans.{all-clear};
 ghost use Rattle.sources.specs.Records.{records-from};
-ghost use Rattle.plan.specs.Reports.{report-text};
+ghost use Rattle.plan.specs.Reports.{report-text, TellsSound as tells-sound};
 ghost use Rattle.plan.specs.Verdicts.{with-reason, verdict-line};
 use crate::account::Tally;
 use crate::account::check;
@@ -61,6 +61,7 @@ pub fn verdict(heap: Global, tally: Tally) -> Result<String, AllocError>
 // Checks a plan from its record bytes, and gives all that is to be said of it: the account, and the verdict as its last line.
 pub fn report(heap: Global, bytes: &[u8]) -> Result<String, fmt::Error>
     ensures unless_out_of_memory { λ r. ⌜ made r (λ s. string-bytes s ≡ report-text (records-from (now (bytes .entry)) 0)) ⌝ }
+    ensures law { λ r. ⌜ made r (λ s. tells-sound (records-from (now (bytes .entry)) 0) (string-bytes s)) ⌝ }
 {
     let Ok(account) = check(heap, bytes) else {
         return Err(fmt::Error);

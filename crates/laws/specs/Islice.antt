@@ -1,6 +1,6 @@
 -- islice: the items at start, start + step and so on below stop, counted from 0.
 use mathlib.Core.Path.{_≡_}
-use mathlib.Core.Bool.{Bool, true, false, cond}
+use mathlib.Core.Bool.{Bool, true, false, cond, _&&_}
 use mathlib.Core.List.{List, [], _∷_, map}
 use Prim.Native.Nat.{ℕ, _+_, _*_, _-_, _^_, _≤_}
 use lib.Dec.{ltb, leb}
@@ -11,7 +11,6 @@ use Rattle.std.specs.declared.option.Option.the-variants.{Some, None}
 use Rattle.steps.specs.declared.fault.Fault.{Fault}
 use Rattle.steps.specs.declared.answer.Step.{Step}
 use Rattle.steps.specs.declared.answer.Step.the-variants.{Item as item, Fault as fault}
-use mathlib.Core.Bool.{_&&_}
 use Rattle.laws.specs.Items.{given, items, past, first-fault}
 
 -- the largest number that an argument may be, 2^63 - 1
@@ -142,5 +141,6 @@ pub record SliceMade {A : Type 0} (arguments : List (Option ℕ)) (ss : List (St
 pub record Consumed {A : Type 0} (arguments : List (Option ℕ)) (ss left : List (Step A)) (met : Option Fault) : Type 0 where
   pub read : Bounds
   pub from-arguments : bounds arguments ≡ Some read
+  pub exactly : left ≡ slice-end (until (read .start) (read .stop)) (read .stride) (Some (read .start)) 0 ss
   pub drawn : DrawnByEnd read ss left
   pub first-met : met ≡ first-fault (slices (until (read .start) (read .stop)) (read .stride) (Some (read .start)) 0 ss)

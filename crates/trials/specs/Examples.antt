@@ -1,7 +1,7 @@
 -- Worked examples of the definitions, as one table.
 use mathlib.Core.Path.{_≡_}
 use mathlib.Core.Bool.{Bool, true, false}
-use mathlib.Core.List.{List, [], _∷_, map}
+use mathlib.Core.List.{List, [], _∷_, _++_, map}
 use Prim.Native.Nat.{ℕ, zero, suc}
 use Rattle.std.specs.declared.option.Option.the-variants.{Some}
 use Rattle.std.specs.declared.result.Result.{Result}
@@ -9,6 +9,9 @@ use Rattle.std.specs.declared.result.Result.the-variants.{Ok}
 use Rattle.steps.specs.declared.fault.Fault.{Fault}
 use Rattle.steps.specs.declared.answer.Step.the-variants.{Item as item, Fault as fault}
 use Rattle.laws.specs.Islice.{bounds, until, slices, slice-end}
+use Rattle.laws.specs.Chain.{until-fault}
+use Rattle.laws.specs.TakeWhile.{taken}
+use Rattle.laws.specs.DropWhile.{dropped}
 use Rattle.laws.specs.Compress.{compressed, compress-end}
 use Rattle.laws.specs.Pairwise.{unpaired}
 use Rattle.laws.specs.ZipLongest.{zipped}
@@ -43,5 +46,18 @@ pub record WorkedExamples : Type 0 where
   pub fault-after-a-pair : unpaired {A = ℕ} (item 1 ∷ (item 2 ∷ (fault broke ∷ (item 3 ∷ [])))) ≡ item (1, 2) ∷ (fault broke ∷ (item (2, 3) ∷ []))
   -- zip_longest: a left fault draws nothing on the right, so the pairs shift
   pub left-fault : zipped {A = ℕ} {B = ℕ} 0 0 (item 1 ∷ (fault broke ∷ (item 2 ∷ []))) (item 5 ∷ (item 6 ∷ [])) ≡ item (1, 5) ∷ (fault broke ∷ (item (2, 6) ∷ []))
+  -- chain is cut after the first fault
+  pub chain-cut : until-fault {A = ℕ} ((item 1 ∷ (fault broke ∷ (item 2 ∷ []))) ++ (item 3 ∷ [])) ≡ item 1 ∷ (fault broke ∷ [])
+  -- takewhile and dropwhile go on after a source's fault, and end or start at the first denied item
+  pub taken-over-a-fault : taken nonzero (item 1 ∷ (fault broke ∷ (item 2 ∷ (item 0 ∷ (item 3 ∷ []))))) ≡ item 1 ∷ (fault broke ∷ (item 2 ∷ []))
+  pub dropped-over-a-fault : dropped nonzero (item 1 ∷ (fault broke ∷ (item 0 ∷ (item 2 ∷ [])))) ≡ fault broke ∷ (item 0 ∷ (item 2 ∷ []))
+  -- compress: a data fault leaves the selector for the next datum, a selector's fault loses its datum
+  pub data-fault : compressed {A = ℕ} {B = ℕ} nonzero (fault broke ∷ (item 7 ∷ [])) (item 1 ∷ []) ≡ fault broke ∷ (item 7 ∷ [])
+  pub selector-fault : compressed {A = ℕ} {B = ℕ} nonzero (item 7 ∷ (item 8 ∷ [])) (fault broke ∷ (item 1 ∷ [])) ≡ fault broke ∷ (item 8 ∷ [])
+  -- record bytes: a header and a payload cut short, another kind, another length, and an end that is not after its start
+  pub header-cut : records-from (8 ∷ (0 ∷ (16 ∷ []))) 0 ≡ fault (broken 1 0) ∷ []
+  pub payload-cut : records-from (8 ∷ (0 ∷ (16 ∷ (0 ∷ (7 ∷ []))))) 0 ≡ fault (broken 2 0) ∷ []
+  pub other-kind-and-length : records-from (0 ∷ (0 ∷ (17 ∷ (0 ∷ (0 ∷ (0 ∷ (16 ∷ (0 ∷ [])))))))) 0 ≡ fault (broken 3 0) ∷ (fault (broken 4 4) ∷ [])
+  pub no-minutes : records-from (8 ∷ (0 ∷ (16 ∷ (0 ∷ (7 ∷ (0 ∷ (2 ∷ (0 ∷ (104 ∷ (1 ∷ (104 ∷ (1 ∷ [])))))))))))) 0 ≡ fault (broken 5 0) ∷ []
   -- the bytes of one block: bus 7 at bay 2 from minute 360 to 370
   pub block-bytes : records-from one-block 0 ≡ item (record { bus = 7; bay = 2; start = 360; end = 370 }) ∷ []

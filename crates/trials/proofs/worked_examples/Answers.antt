@@ -13,5 +13,14 @@ returns c = record {
   fault-before-a-pair = refl;
   fault-after-a-pair = refl;
   left-fault = refl;
+  chain-cut = refl;
+  taken-over-a-fault = refl;
+  dropped-over-a-fault = refl;
+  data-fault = refl;
+  selector-fault = refl;
+  header-cut = refl;
+  payload-cut = refl;
+  other-kind-and-length = refl;
+  no-minutes = refl;
   block-bytes = refl;
 }

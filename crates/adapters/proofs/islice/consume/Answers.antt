@@ -22,6 +22,7 @@ returns g c =
     record {
       read = b;
       from-arguments = m .1 .from-arguments;
+      exactly = f .below ∙ left;
       drawn = subst (DrawnByEnd b ss) (sym (f .below ∙ left)) (draws-by-end (c .args .arguments .now) b (m .1 .from-arguments) ss);
       first-met = f .meets ∙ ap first-fault gives;
     }

@@ -1,5 +1,7 @@
 // The adapters: each takes one source or two, and is a source again.
 
+#![tactic(auto)]
+
 mod accumulate;
 mod chain;
 mod compress;

@@ -1,5 +1,7 @@
 // Combinations, and combinations with replacement.
 
+#![tactic(auto)]
+
 mod combinations;
 mod replacement;
 

@@ -1,5 +1,7 @@
 // The one interface of the enumerators, and what is written once for all of them.
 
+#![tactic(auto)]
+
 mod copy;
 mod enumerator;
 mod history;

@@ -1,6 +1,8 @@
 // How sources, adapters and enumerators are owned. Every function here is accepted as it stands; the edits listed in
 // the folder ownership/ turn one line each, and the compiler has to refuse each of them.
 
+#![tactic(auto)]
+
 use adapters::{Accumulate, Chain, Compress, DropWhile, Islice, Pairwise, TakeWhile, ZipLongest};
 use combinations::{Combinations, CombinationsWithReplacement};
 use permutations::Permutations;

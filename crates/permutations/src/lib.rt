@@ -1,5 +1,7 @@
 // Permutations.
 
+#![tactic(auto)]
+
 mod permutations;
 
 pub use permutations::Permutations;

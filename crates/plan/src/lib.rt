@@ -1,6 +1,8 @@
 // The plan checker: blocks and faulty records read from a plan, every two neighbouring blocks laid side
 // by side, and whether the plan passes.
 
+#![tactic(auto)]
+
 mod account;
 mod columns;
 mod outcome;

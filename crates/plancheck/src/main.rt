@@ -1,6 +1,8 @@
 // Checks a plan of charging blocks, from the file that its argument names or, with none, a sample that
 // is built in, and prints an account of it with one line at its end: `plan passed` or `plan failed`.
 
+#![tactic(auto)]
+
 mod sample;
 
 use anyhow::anyhow;

@@ -1,5 +1,7 @@
 // Products of pools.
 
+#![tactic(auto)]
+
 mod counter;
 mod product;
 

@@ -1,6 +1,8 @@
 // Reads scenarios from standard input, one to a line, runs each on the library's public calls, and
 // writes what every call answered. docs/replay.md has the form of a scenario and of the answers.
 
+#![tactic(auto)]
+
 mod adapter;
 mod enumerator;
 mod flaw;

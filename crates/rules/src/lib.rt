@@ -1,5 +1,7 @@
 // What adapters ask of items: predicates, key kinds and joinings.
 
+#![tactic(auto)]
+
 mod joining;
 mod key;
 mod predicate;

@@ -1,6 +1,8 @@
 // The sources: a list of any element, a range of numbers, blocks read from record bytes, and a list
 // of steps that may hold faults.
 
+#![tactic(auto)]
+
 mod block;
 mod list;
 mod range;

@@ -1,6 +1,8 @@
 // What every part of the library speaks of: answers, faults and refusals, sources of items,
 // and the predicates, key kinds and joinings that adapters ask.
 
+#![tactic(auto)]
+
 mod answer;
 mod fault;
 mod lent;

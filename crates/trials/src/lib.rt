@@ -1,4 +1,7 @@
 // Worked examples of the definitions, and tests that run the library on examples and on damaged input.
+
+#![tactic(auto)]
+
 ghost use Rattle.std.specs.Prelude.{◌≡◌, [], ◌∷◌};
 ghost use Rattle.trials.specs.Examples.{WorkedExamples};
 

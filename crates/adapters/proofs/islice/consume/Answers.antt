@@ -6,8 +6,8 @@ use Rattle.adapters.proofs.islice.consume.Goals as goal
 
 pub returns : goal.returns
 returns g c =
-    let m = c.in-ok-slice.ensures in
-    let s = c.in-ok-slice.slice in
+    let m = c.in_ok-slice.ensures in
+    let s = c.in_ok-slice.slice in
     let b = m.1.read in
     let ss = g.S.Source.ahead c.args.source in
     let f = c.finish-met.ensures in

@@ -28,9 +28,9 @@ loop-i-preserved c =
     let cs = c.loop-i.cycles in
     let low = counter_low c.args.n c.args.r c.loop-i.i i c.args.indices.now c.args.cycles.now c.loop-i.indices cs (omega arith) c.loop-i.invariant in
     let one : get_or cs i 0 ≡ 1 = omega (arith, get_or-set_same cs i (get_or cs i 0 - 1) 0 (omega arith)) in
-    subst (Scanned c.args.n c.args.r i c.args.indices.now c.args.cycles.now c.wind-back.new.indices) (sym c.wind-back.ensures.cycles)
-    (scanned_more c.args.n c.args.r c.loop-i.i i c.args.indices.now c.args.cycles.now c.loop-i.indices cs c.wind-back.new.indices (get_or cs i 0 - 1)
-    (omega arith) (omega arith) (omega arith) (omega arith) c.loop-i.invariant one c.wind-back.ensures.indices)
+    subst (Scanned c.args.n c.args.r i c.args.indices.now c.args.cycles.now c.wind_back.new.indices) (sym c.wind_back.ensures.cycles)
+    (scanned_more c.args.n c.args.r c.loop-i.i i c.args.indices.now c.args.cycles.now c.loop-i.indices cs c.wind_back.new.indices (get_or cs i 0 - 1)
+    (omega arith) (omega arith) (omega arith) (omega arith) c.loop-i.invariant one c.wind_back.ensures.indices)
 
 pub returns-then-i-eq0 : goal.returns-then-i-eq0
 returns-then-i-eq0 c =

@@ -13,11 +13,11 @@ pub returns : goal.returns
 returns c =
     let bytes = c.args.bytes.now in
     let rs = records_from bytes 0 in
-    let b = c.in-ok-blocks.ensures in
-    let laid : vec_items c.in-ok-joints.joints ≡ joints (items rs) = c.in-ok-joints.ensures ∙ ap joints (c.as-slice.ensures.value ∙ b.0) in
-    let many : c.len.result ≡ length (faults rs) = c.len.ensures ∙ c.in-ok-blocks.faults.ok.0 ∙ ap length b.1 in
+    let b = c.in_ok-blocks.ensures in
+    let laid : vec_items c.in_ok-joints.joints ≡ joints (items rs) = c.in_ok-joints.ensures ∙ ap joints (c.as_slice.ensures.value ∙ b.0) in
+    let many : c.len.result ≡ length (faults rs) = c.len.ensures ∙ c.in_ok-blocks.faults.ok.0 ∙ ap length b.1 in
     let tally : c.of-tally.result ≡ tally_of (length (faults rs)) (joints (items rs)) =
-    c.of-tally.ensures ∙ ap (λ n. tally_of n c.as-slice-2.result.now) many ∙ ap (tally_of (length (faults rs))) (c.as-slice-2.ensures.value ∙ laid) in
+    c.of-tally.ensures ∙ ap (λ n. tally_of n c.as_slice-2.result.now) many ∙ ap (tally_of (length (faults rs))) (c.as_slice-2.ensures.value ∙ laid) in
     record {
       unless_out_of_memory = record {
         read = reads (length bytes) 0 bytes (omega arith);

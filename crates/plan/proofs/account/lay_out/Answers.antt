@@ -11,7 +11,7 @@ use Rattle.plan.proofs.account.lay_out.Goals as goal
 pub returns : goal.returns
 returns c =
     let blocks = c.args.blocks.now in
-    let steps = c.as-slice.ensures.value ∙ c.in-ok-steps.ensures.gives.0 ∙ c.new-neighbours.ensures.ahead ∙ ap unpaired c.new.ensures.ahead in
-    let pairs : c.as-slice-2.result.now ≡ items (unpaired (map item blocks)) = c.as-slice-2.ensures.value ∙ c.in-ok-pairs.ensures.0 ∙ ap items steps in
-    IfOk-weaker c.lay-side-by-side.result (λ v. vec_items v ≡ map joint_of c.as-slice-2.result.now) (λ v. vec_items v ≡ joints blocks)
-    (λ v e. e ∙ ap (map joint_of) pairs ∙ laid_out blocks) c.lay-side-by-side.ensures
+    let steps = c.as_slice.ensures.value ∙ c.in_ok-steps.ensures.gives.0 ∙ c.new-neighbours.ensures.ahead ∙ ap unpaired c.new.ensures.ahead in
+    let pairs : c.as_slice-2.result.now ≡ items (unpaired (map item blocks)) = c.as_slice-2.ensures.value ∙ c.in_ok-pairs.ensures.0 ∙ ap items steps in
+    IfOk-weaker c.lay_side_by_side.result (λ v. vec_items v ≡ map joint_of c.as_slice-2.result.now) (λ v. vec_items v ≡ joints blocks)
+    (λ v e. e ∙ ap (map joint_of) pairs ∙ laid_out blocks) c.lay_side_by_side.ensures

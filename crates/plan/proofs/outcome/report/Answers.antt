@@ -11,7 +11,7 @@ returns c =
     let steps = records_from c.args.bytes.now 0 in
     let text : string_bytes c.writeln.new.self ≡ report_text steps =
     reported steps (vec_items account.blocks) (vec_items account.faults) (vec_items account.joints) account.tally
-    (string_bytes c.in-ok-text.text) (string_bytes c.in-Ok-verdict.line) (string_bytes c.writeln.new.self)
+    (string_bytes c.in_ok-text.text) (string_bytes c.in-Ok-verdict.line) (string_bytes c.writeln.new.self)
     k.blocks_are k.faults_are k.joints_are k.tally_is
-    c.in-ok-text.ensures.unless_out_of_memory c.in-Ok-verdict.ensures.unless_out_of_memory c.in-ok-writeln.ensures.bytes in
+    c.in_ok-text.ensures.unless_out_of_memory c.in-Ok-verdict.ensures.unless_out_of_memory c.in_ok-writeln.ensures.bytes in
     record { unless_out_of_memory = text; law = tells_sound steps (string_bytes c.writeln.new.self) text }

@@ -10,7 +10,7 @@ loop-pair-preserved c =
     let i = c.loop-pair.pair-index in
     let d : Block × Block = (record { bus = 0; bay = 0; start = 0; end = 0 }, record { bus = 0; bay = 0; start = 0; end = 0 }) in
     let p = get_or ps i d in
-    c.in-ok-push.ensures.items
+    c.in_ok-push.ensures.items
     ∙ ap (λ s. vec_items c.loop-pair.joints ++ record { first = p.0; second = p.1; seam = s } ∷ []) c.between.ensures
     ∙ ap (λ us. us ++ joint_of p ∷ []) c.loop-pair.invariant
     ∙ sym (map_more joint_of ps i d c.loop-pair-test.true)

@@ -7,9 +7,9 @@ use Rattle.replay.proofs.show.show_call.Goals as goal
 pub returns : goal.returns
 returns c =
     let call = c.args.call.now in
-    let places : each spaced c.as-slice.result.now ≡ each spaced (vec_items call.places) = ap (each spaced) c.as-slice.ensures.value in
-    let elements : each spaced c.as-slice-2.result.now ≡ each spaced (vec_items call.elements) = ap (each spaced) c.as-slice-2.ensures.value in
+    let places : each spaced c.as_slice.result.now ≡ each spaced (vec_items call.places) = ap (each spaced) c.as_slice.ensures.value in
+    let elements : each spaced c.as_slice-2.result.now ≡ each spaced (vec_items call.elements) = ap (each spaced) c.as_slice-2.ensures.value in
     rw (← places, ← elements)
-    (six_written (row_word call.answer) (codes " places") (each spaced c.as-slice.result.now) (codes " elements") (each spaced c.as-slice-2.result.now) (codes "\n")
-    (string_bytes c.args.out.now) (string_bytes c.show-row-answer.new.out) (string_bytes c.push-str.new.self) (string_bytes c.show-places.new.out) (string_bytes c.push-str-2.new.self) (string_bytes c.show-elements.new.out) (string_bytes c.push-str-3.new.self)
-    c.in-ok-show-row-answer.ensures c.in-ok-push-str.ensures.bytes c.in-ok-show-places.ensures c.in-ok-push-str-2.ensures.bytes c.in-ok-show-elements.ensures c.in-ok-push-str-3.ensures.bytes)
+    (six_written (row_word call.answer) (codes " places") (each spaced c.as_slice.result.now) (codes " elements") (each spaced c.as_slice-2.result.now) (codes "\n")
+    (string_bytes c.args.out.now) (string_bytes c.show_row_answer.new.out) (string_bytes c.push_str.new.self) (string_bytes c.show_places.new.out) (string_bytes c.push_str-2.new.self) (string_bytes c.show_elements.new.out) (string_bytes c.push_str-3.new.self)
+    c.in_ok-show_row_answer.ensures c.in_ok-push_str.ensures.bytes c.in_ok-show_places.ensures c.in_ok-push_str-2.ensures.bytes c.in_ok-show_elements.ensures c.in_ok-push_str-3.ensures.bytes)

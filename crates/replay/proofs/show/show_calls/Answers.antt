@@ -6,7 +6,7 @@ use Rattle.replay.proofs.show.show_calls.Goals as goal
 
 pub loop-call-preserved : goal.loop-call-preserved
 loop-call-preserved c =
-    item_turn call_line c.args.calls.now c.loop-call.call-index c.call-item.result (string_bytes c.loop-call.out) (string_bytes c.show-call.new.out) (string_bytes c.args.out.now ++ each call_line c.args.calls.now) c.loop-call-test.true c.call-item.is c.in-ok-show-call.ensures c.loop-call.invariant
+    item_turn call_line c.args.calls.now c.loop-call.call-index c.call-item.result (string_bytes c.loop-call.out) (string_bytes c.show_call.new.out) (string_bytes c.args.out.now ++ each call_line c.args.calls.now) c.loop-call-test.true c.call-item.is c.in_ok-show_call.ensures c.loop-call.invariant
 
 pub returns : goal.returns
 returns c =

@@ -6,7 +6,7 @@ use Rattle.replay.proofs.show.show_elements.Goals as goal
 
 pub loop-element-preserved : goal.loop-element-preserved
 loop-element-preserved c =
-    each_turn spaced c.args.elements.now c.loop-element.element-index 0 (string_bytes c.loop-element.out) (string_bytes c.write.new.self) (string_bytes c.args.out.now ++ each spaced c.args.elements.now) c.loop-element-test.true c.in-ok-write.ensures.bytes c.loop-element.invariant
+    each_turn spaced c.args.elements.now c.loop-element.element-index 0 (string_bytes c.loop-element.out) (string_bytes c.write.new.self) (string_bytes c.args.out.now ++ each spaced c.args.elements.now) c.loop-element-test.true c.in_ok-write.ensures.bytes c.loop-element.invariant
 
 pub returns : goal.returns
 returns c =

@@ -6,7 +6,7 @@ use Rattle.replay.proofs.show.show_places.Goals as goal
 
 pub loop-place-preserved : goal.loop-place-preserved
 loop-place-preserved c =
-    each_turn spaced c.args.places.now c.loop-place.place-index 0 (string_bytes c.loop-place.out) (string_bytes c.write.new.self) (string_bytes c.args.out.now ++ each spaced c.args.places.now) c.loop-place-test.true c.in-ok-write.ensures.bytes c.loop-place.invariant
+    each_turn spaced c.args.places.now c.loop-place.place-index 0 (string_bytes c.loop-place.out) (string_bytes c.write.new.self) (string_bytes c.args.out.now ++ each spaced c.args.places.now) c.loop-place-test.true c.in_ok-write.ensures.bytes c.loop-place.invariant
 
 pub returns : goal.returns
 returns c =

@@ -55,7 +55,7 @@ loop-met-preserved g c =
           ∙ ap (λ us. compress_ends after.ended after.data_left us) e.below_selectors
           ∙ compress_stays p s.ended ds ts ∙ i.1,
       ap (λ o. earlier o (first_fault (compresses (g.P.Predicate.says t.predicate) t.ended (g.D.Source.ahead t.items) (g.S.Source.ahead t.selectors))))
-          (c.keep-first-met.ensures ∙ ap (kept_first c.loop-met.met) e.gives)
+          (c.keep_first-met.ensures ∙ ap (kept_first c.loop-met.met) e.gives)
           ∙ ap (λ us. earlier (kept_first c.loop-met.met (first ahead)) (first_fault us)) e.leaves
           ∙ first-kept c.loop-met.met ahead ∙ i.2,
     )

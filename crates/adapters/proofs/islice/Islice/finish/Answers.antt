@@ -49,7 +49,7 @@ loop-met-preserved g c =
           ∙ ap (λ k. slice_end s.stop s.step after.next k (g.S.Source.ahead t.source)) e.counts.1
           ∙ ap (λ us. slice_end s.stop s.step after.next after.cur us) e.below
           ∙ end_stays s.stop s.step ss s.next s.cur ∙ i.2,
-      ap (λ o. earlier o (first_fault (slices t.stop t.step t.next t.cur (g.S.Source.ahead t.source)))) (c.keep-first-met.ensures ∙ ap (kept_first c.loop-met.met) e.gives)
+      ap (λ o. earlier o (first_fault (slices t.stop t.step t.next t.cur (g.S.Source.ahead t.source)))) (c.keep_first-met.ensures ∙ ap (kept_first c.loop-met.met) e.gives)
           ∙ ap (λ us. earlier (kept_first c.loop-met.met (first ahead)) (first_fault us)) e.leaves
           ∙ first-kept c.loop-met.met ahead ∙ i.3,
     )

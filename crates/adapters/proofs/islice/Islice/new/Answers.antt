@@ -15,8 +15,8 @@ returns g c =
         from_arguments = from;
         none_drawn = refl;
         next_is = refl;
-        stop_is = c.drawn-until-stop.ensures;
+        stop_is = c.drawn_until-stop.ensures;
         stride_is = refl;
-        law = subst (λ stop. EveryStep b ss (slices stop w.step (Some w.start) 0 ss)) (sym c.drawn-until-stop.ensures) (gives_every_step c.args.arguments.now b from ss);
+        law = subst (λ stop. EveryStep b ss (slices stop w.step (Some w.start) 0 ss)) (sym c.drawn_until-stop.ensures) (gives_every_step c.args.arguments.now b from ss);
       },
     )

@@ -12,14 +12,14 @@ returns-in-Item g c =
     let old = c.in-Item.old in
     let ss = g.S.Source.ahead c.args.self.now.source in
     let ts = g.S.Source.ahead c.next.new.self in
-    let p = c.pair-with-in-Item.ensures in
+    let p = c.pair_with-in-Item.ensures in
     let none = c.in-None.is in
     let whole : ss ≡ item old ∷ ts =
-    item-first old ss (sym c.next.ensures.gives ∙ c.in-ok-old.was ∙ ap Ok c.in-Item.is) ∙ ap (λ us. item old ∷ us) (sym c.next.ensures.leaves) in
+    item-first old ss (sym c.next.ensures.gives ∙ c.in_ok-old.was ∙ ap Ok c.in-Item.is) ∙ ap (λ us. item old ∷ us) (sym c.next.ensures.leaves) in
     let both = ap (λ o. pairs o ss) none ∙ ap unpaired whole in
     record {
       gives = p.gives ∙ sym (ap first both ∙ first_pair old ts);
-      leaves = ap (λ o. pairs o (g.S.Source.ahead c.pair-with-in-Item.new.self.source)) (p.waits ∙ ap (λ o. next_old o ts) none)
+      leaves = ap (λ o. pairs o (g.S.Source.ahead c.pair_with-in-Item.new.self.source)) (p.waits ∙ ap (λ o. next_old o ts) none)
           ∙ ap (pairs (next_old None ts)) p.below ∙ after_first_pair old ts ∙ sym (ap rest both);
       below = p.below ∙ sym (ap (λ o. pairs_left o ss) none ∙ ap unpaired_left whole);
       waits = p.waits ∙ ap (λ o. next_old o ts) none ∙ sym (ap (λ o. pairs_old o ss) none ∙ ap first_old whole);

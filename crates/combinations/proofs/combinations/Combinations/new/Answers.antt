@@ -12,13 +12,13 @@ pub invariant-of-result : goal.invariant-of-result
 invariant-of-result c =
     let n = c.args.n in
     let r = c.args.r in
-    let f = fits 256 64 (n ∷ []) r c.in-ok-check-limits.ensures.answer in
+    let f = fits 256 64 (n ∷ []) r c.in_ok-check_limits.ensures.answer in
     let at = c.counting.ensures in (
       one_pool 256 64 n f.pools,
       (
         f.short,
         (
-          (λ e k k<. omega (arith, ltb-false n r (sym c.has-no-row.ensures ∙ e), at k (omega (arith, f.short)))),
+          (λ e k k<. omega (arith, ltb-false n r (sym c.has_no_row.ensures ∙ e), at k (omega (arith, f.short)))),
           ((λ e. counting_rises r c.counting.result (omega (arith, f.short)) (λ k k<. at k (omega (arith, f.short)))), tt),
         ),
       ),
@@ -28,11 +28,11 @@ pub returns : goal.returns
 returns c =
     let n = c.args.n in
     let r = c.args.r in
-    let f = fits 256 64 (n ∷ []) r c.in-ok-check-limits.ensures.answer in (
+    let f = fits 256 64 (n ∷ []) r c.in_ok-check_limits.ensures.answer in (
       f.makable,
       refl,
       refl,
       all_ahead (CombinationRow n r) r (combination_rows n r) (combinations_listed n r) _ c.counting.result (omega (arith, f.short))
-          (λ t. combinations_none n r (ltb-true n r (sym c.has-no-row.ensures ∙ t)))
+          (λ t. combinations_none n r (ltb-true n r (sym c.has_no_row.ensures ∙ t)))
           (λ _. low_first n r its_number (CombinationRow n r) (combination_climbs n r) refl c.counting.result (λ k k<. c.counting.ensures k (omega (arith, f.short)))),
     )

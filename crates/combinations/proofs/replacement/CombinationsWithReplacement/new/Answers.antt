@@ -11,13 +11,13 @@ pub invariant-of-result : goal.invariant-of-result
 invariant-of-result c =
     let n = c.args.n in
     let r = c.args.r in
-    let f = fits 256 64 (n ∷ []) r c.in-ok-check-limits.ensures.answer in
+    let f = fits 256 64 (n ∷ []) r c.in_ok-check_limits.ensures.answer in
     let at = c.zeros.ensures in (
       one_pool 256 64 n f.pools,
       (
         f.short,
         (
-          (λ e k k<. omega (arith, some_element n r (sym c.has-no-row.ensures ∙ e) (omega arith), at k (omega (arith, f.short)))),
+          (λ e k k<. omega (arith, some_element n r (sym c.has_no_row.ensures ∙ e) (omega arith), at k (omega (arith, f.short)))),
           ((λ e. level_start r c.zeros.result (omega (arith, f.short)) (λ k k<. at k (omega (arith, f.short)))), tt),
         ),
       ),
@@ -27,11 +27,11 @@ pub returns : goal.returns
 returns c =
     let n = c.args.n in
     let r = c.args.r in
-    let f = fits 256 64 (n ∷ []) r c.in-ok-check-limits.ensures.answer in (
+    let f = fits 256 64 (n ∷ []) r c.in_ok-check_limits.ensures.answer in (
       f.makable,
       refl,
       refl,
-      all_ahead (ReplacementRow n r) r (replacement_rows n r) (replacements_listed n r) c.has-no-row.result c.zeros.result (omega (arith, f.short))
-          (λ t. no_element n r (sym c.has-no-row.ensures ∙ t))
+      all_ahead (ReplacementRow n r) r (replacement_rows n r) (replacements_listed n r) c.has_no_row.result c.zeros.result (omega (arith, f.short))
+          (λ t. no_element n r (sym c.has_no_row.ensures ∙ t))
           (λ _. low_first n r nothing_above (ReplacementRow n r) (replacement_climbs n r) refl c.zeros.result (λ k k<. c.zeros.ensures k (omega (arith, f.short)))),
     )

@@ -14,22 +14,22 @@ use Rattle.permutations.proofs.permutations.Permutations.new.Goals as goal
 pub invariant-of-result : goal.invariant-of-result
 invariant-of-result c =
     let n = c.args.n in
-    let r = c.unwrap-or-places.result in
-    let f = fits 256 64 (n ∷ []) r c.in-ok-check-limits.ensures.answer in
+    let r = c.unwrap_or-places.result in
+    let f = fits 256 64 (n ∷ []) r c.in_ok-check_limits.ensures.answer in
     let few = one_pool 256 64 n f.pools in
-    let start = λ (l : r ≤ n). cycling_start n r c.counting.result c.full-cycles.result l (omega arith) (λ k k<. c.counting.ensures k (omega arith)) (λ k k<. c.full-cycles.ensures l k k<) in (
+    let start = λ (l : r ≤ n). cycling_start n r c.counting.result c.full_cycles.result l (omega arith) (λ k k<. c.counting.ensures k (omega arith)) (λ k k<. c.full_cycles.ensures l k k<) in (
       few,
       (
         f.short,
         (
-          (λ e. ltb-false n r (sym c.has-no-row.ensures ∙ e)),
+          (λ e. ltb-false n r (sym c.has_no_row.ensures ∙ e)),
           (
-            (λ e. (start (ltb-false n r (sym c.has-no-row.ensures ∙ e))).every),
+            (λ e. (start (ltb-false n r (sym c.has_no_row.ensures ∙ e))).every),
             (
-              (λ e. (start (ltb-false n r (sym c.has-no-row.ensures ∙ e))).below),
+              (λ e. (start (ltb-false n r (sym c.has_no_row.ensures ∙ e))).below),
               (
-                (λ e. (start (ltb-false n r (sym c.has-no-row.ensures ∙ e))).apart),
-                ((λ e. (start (ltb-false n r (sym c.has-no-row.ensures ∙ e))).climbing), ((λ e. (start (ltb-false n r (sym c.has-no-row.ensures ∙ e))).counters), tt)),
+                (λ e. (start (ltb-false n r (sym c.has_no_row.ensures ∙ e))).apart),
+                ((λ e. (start (ltb-false n r (sym c.has_no_row.ensures ∙ e))).climbing), ((λ e. (start (ltb-false n r (sym c.has_no_row.ensures ∙ e))).counters), tt)),
               ),
             ),
           ),
@@ -40,15 +40,15 @@ invariant-of-result c =
 pub returns : goal.returns
 returns c =
     let n = c.args.n in
-    let r = c.unwrap-or-places.result in
-    let f = fits 256 64 (n ∷ []) r c.in-ok-check-limits.ensures.answer in
+    let r = c.unwrap_or-places.result in
+    let f = fits 256 64 (n ∷ []) r c.in_ok-check_limits.ensures.answer in
     let few = one_pool 256 64 n f.pools in
-    let is : r ≡ row_length n c.args.r = c.unwrap-or-places.ensures ∙ row_length_is n c.args.r in (
+    let is : r ≡ row_length n c.args.r = c.unwrap_or-places.ensures ∙ row_length_is n c.args.r in (
       ap (unmakable 256 64 (n ∷ [])) (sym is) ∙ f.makable,
       refl,
       is,
-      subst (λ z. AllAhead (PermutationRow n z) (permutation_rows n z) (ahead_from c.has-no-row.result (take r c.counting.result) (permutation_rows n r))) is
-          (all_ahead (PermutationRow n r) r (permutation_rows n r) (permutations_listed n r) c.has-no-row.result c.counting.result (omega (arith, f.short))
-          (λ t. permutations_none n r (ltb-true n r (sym c.has-no-row.ensures ∙ t)))
-          (λ e. cycling_first n r c.counting.result (ltb-false n r (sym c.has-no-row.ensures ∙ e)) (λ k k<. c.counting.ensures k (omega arith)))),
+      subst (λ z. AllAhead (PermutationRow n z) (permutation_rows n z) (ahead_from c.has_no_row.result (take r c.counting.result) (permutation_rows n r))) is
+          (all_ahead (PermutationRow n r) r (permutation_rows n r) (permutations_listed n r) c.has_no_row.result c.counting.result (omega (arith, f.short))
+          (λ t. permutations_none n r (ltb-true n r (sym c.has_no_row.ensures ∙ t)))
+          (λ e. cycling_first n r c.counting.result (ltb-false n r (sym c.has_no_row.ensures ∙ e)) (λ k k<. c.counting.ensures k (omega arith)))),
     )

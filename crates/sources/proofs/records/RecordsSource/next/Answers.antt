@@ -16,23 +16,23 @@ returns-in-default c =
     let lo : 0 < length (tail_at bs at) = search rules in
     let hi : length (tail_at bs at) < 4 = search rules in
     let e = from_tail bs at ∙ header_cut at (tail_at bs at) lo hi in
-    record { gives = ap Err c.fault-at.ensures ∙ sym (ap first e); leaves = nothing_left bs (length bs) (omega arith) ∙ sym (ap rest e) }
+    record { gives = ap Err c.fault_at.ensures ∙ sym (ap first e); leaves = nothing_left bs (length bs) (omega arith) ∙ sym (ap rest e) }
 
 pub returns-then-rest-len : goal.returns-then-rest-len
 returns-then-rest-len c =
     let bs = c.args.self.now.bytes.now in
     let at = c.args.self.now.at in
     let lo : 4 ≤ length (tail_at bs at) = search rules in
-    let e = from_tail bs at ∙ payload_cut at c.word-of-len.result (tail_at bs at) lo c.word-of-len.ensures c.if-rest-len.true in
-    record { gives = ap Err c.fault-at-then-rest-len.ensures ∙ sym (ap first e); leaves = nothing_left bs (length bs) (omega arith) ∙ sym (ap rest e) }
+    let e = from_tail bs at ∙ payload_cut at c.word_of-len.result (tail_at bs at) lo c.word_of-len.ensures c.if-rest-len.true in
+    record { gives = ap Err c.fault_at-then-rest-len.ensures ∙ sym (ap first e); leaves = nothing_left bs (length bs) (omega arith) ∙ sym (ap rest e) }
 
 pub returns : goal.returns
 returns c =
     let bs = c.args.self.now.bytes.now in
     let at = c.args.self.now.at in
     let lo : 4 ≤ length (tail_at bs at) = search rules in
-    let e = from_tail bs at ∙ whole_record at c.word-of-len.result (tail_at bs at) lo c.word-of-len.ensures c.if-rest-len.false in
+    let e = from_tail bs at ∙ whole_record at c.word_of-len.result (tail_at bs at) lo c.word_of-len.ensures c.if-rest-len.false in
     record {
-      gives = c.read-block.ensures ∙ ap (λ k. answer (record_step at k (take (c.word-of-len.result - 0) (behind 4 (tail_at bs at))))) c.word-of.ensures ∙ sym (ap first e);
-      leaves = sym (ap rest e ∙ next_record bs at c.word-of-len.result);
+      gives = c.read_block.ensures ∙ ap (λ k. answer (record_step at k (take (c.word_of-len.result - 0) (behind 4 (tail_at bs at))))) c.word_of.ensures ∙ sym (ap first e);
+      leaves = sym (ap rest e ∙ next_record bs at c.word_of-len.result);
     }

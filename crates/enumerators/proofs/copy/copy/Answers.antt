@@ -6,8 +6,8 @@ use Rattle.enumerators.proofs.copy.copy.Goals as goal
 pub bounds-pool-places : goal.bounds-pool-places
 bounds-pool-places g c = All-get_or (λ p. p < length c.args.pool.now) c.args.places.now c.loop-i.i 0 c.loop-i-test.true c.requires.within
 
-pub offset-bounds-pool-places : goal.offset-bounds-pool-places
-offset-bounds-pool-places g c = omega (arith, All-get_or (λ p. p < length c.args.pool.now) c.args.places.now c.loop-i.i 0 c.loop-i-test.true c.requires.within)
+pub offset_bounds-pool-places : goal.offset_bounds-pool-places
+offset_bounds-pool-places g c = omega (arith, All-get_or (λ p. p < length c.args.pool.now) c.args.places.now c.loop-i.i 0 c.loop-i-test.true c.requires.within)
 
 pub loop-i-preserved : goal.loop-i-preserved
 loop-i-preserved g c =

@@ -2,8 +2,8 @@ use Rattle.std.proofs.Common.{◌+◌, get_or, refl, arith, length-set}
 use Rattle.rows.proofs.Writing.{position_below, positions_all, written_more}
 use Rattle.enumerators.proofs.copy.positions_of.Goals as goal
 
-pub overflow-add-lying : goal.overflow-add-lying
-overflow-add-lying c = omega (arith, position_below 16384 c.args.starts.now c.args.row.now c.loop-i.i c.loop-i-test.true (omega arith) c.requires.small)
+pub overflow_add-lying : goal.overflow_add-lying
+overflow_add-lying c = omega (arith, position_below 16384 c.args.starts.now c.args.row.now c.loop-i.i c.loop-i-test.true (omega arith) c.requires.small)
 
 pub loop-i-preserved : goal.loop-i-preserved
 loop-i-preserved c = (

@@ -7,13 +7,13 @@ use Rattle.permutations.proofs.permutations.turn.Goals as goal
 pub loop-i-init : goal.loop-i-init
 loop-i-init c = scanned_none c.args.n c.args.r c.args.indices.now c.args.cycles.now (omega arith) c.requires.cycling
 
-pub overflow-sub-cycles : goal.overflow-sub-cycles
-overflow-sub-cycles c =
+pub overflow_sub-cycles : goal.overflow_sub-cycles
+overflow_sub-cycles c =
     counter_low c.args.n c.args.r c.loop-i.i (c.loop-i.i - 1) c.args.indices.now c.args.cycles.now c.loop-i.indices c.loop-i.cycles
     (omega arith) c.loop-i.invariant
 
-pub overflow-sub-n : goal.overflow-sub-n
-overflow-sub-n c =
+pub overflow_sub-n : goal.overflow_sub-n
+overflow_sub-n c =
     let i = c.loop-i.i - 1 in
     let cs = c.loop-i.cycles in
     omega (

@@ -4,8 +4,8 @@ use Rattle.std.proofs.lemmas.List.Sums.{sum_by_more, sum_by-take-le}
 use Rattle.rows.proofs.Carries.{sum_small}
 use Rattle.products.proofs.product.total.Goals as goal
 
-pub overflow-add-elements : goal.overflow-add-elements
-overflow-add-elements c =
+pub overflow_add-elements : goal.overflow_add-elements
+overflow_add-elements c =
     let xs = c.args.lengths.now in
     let i = c.loop-length.length-index in
     omega (arith, c.loop-length.invariant, sum_by_more (λ x. x) xs i 0 (omega arith), sum_by-take-le (λ x. x) xs (i + 1), sum_small 256 64 xs c.requires.0 c.requires.1)

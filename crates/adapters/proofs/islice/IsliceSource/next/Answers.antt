@@ -4,11 +4,11 @@ use Rattle.laws.specs.Islice.{over, slices}
 use Rattle.laws.proofs.Slices.{over_gives, over_after}
 use Rattle.adapters.proofs.islice.IsliceSource.next.Goals as goal
 
-pub returns-in-default : goal.returns-in-default
-returns-in-default g c =
+pub returns-in_default : goal.returns-in_default
+returns-in_default g c =
     let s = c.args.self.now in
     let ss = g.S.Source.ahead s.source in
-    let o : over s.stop s.next s.cur ≡ true = ap (λ n. over s.stop n s.cur) c.in-default.is in
+    let o : over s.stop s.next s.cur ≡ true = ap (λ n. over s.stop n s.cur) c.in_default.is in
     let e = over_gives s.stop s.step s.next s.cur ss o in
     let a = over_after s.stop s.step s.next s.cur ss o in
     record { gives = sym (ap first e); leaves = e ∙ sym (ap rest e); below = sym (ap (λ r. r.left) a); counts = (sym (ap (λ r. r.next) a), sym (ap (λ r. r.cur) a)); keeps = (refl, refl) }

@@ -15,7 +15,7 @@ returns-in-Item g c =
     let p = c.pair_with-in-Item.ensures in
     let none = c.in-None.is in
     let whole : ss ≡ item old ∷ ts =
-    item-first old ss (sym c.next.ensures.gives ∙ c.in_ok-old.was ∙ ap Ok c.in-Item.is) ∙ ap (λ us. item old ∷ us) (sym c.next.ensures.leaves) in
+    item-first old ss (sym c.next.ensures.gives ∙ c.in_ok-old-in-None.was ∙ ap Ok c.in-Item.is) ∙ ap (λ us. item old ∷ us) (sym c.next.ensures.leaves) in
     let both = ap (λ o. pairs o ss) none ∙ ap unpaired whole in
     record {
       gives = p.gives ∙ sym (ap first both ∙ first_pair old ts);

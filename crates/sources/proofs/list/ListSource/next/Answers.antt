@@ -5,8 +5,8 @@ use Rattle.steps.specs.declared.answer.Step.TheVariants.{Item as item}
 use Rattle.sources.proofs.Lists.{first_and_rest}
 use Rattle.sources.proofs.list.ListSource.next.Goals as goal
 
-pub returns-in-default : goal.returns-in-default
-returns-in-default g c =
+pub returns-in_default : goal.returns-in_default
+returns-in_default g c =
     let e : c.args.self.now.rest.now ≡ [] = nil_from_length c.args.self.now.rest.now (search rules) in
     let f = ap (map item) e in
     record { gives = sym (ap first f); leaves = f ∙ sym (ap rest f) }

@@ -9,8 +9,8 @@ returns-then-at-self c =
     let e = nothing_left c.args.self.now.bytes.now c.args.self.now.at c.if-at-self.true in
     record { gives = sym (ap first e); leaves = e ∙ sym (ap rest e) }
 
-pub returns-in-default : goal.returns-in-default
-returns-in-default c =
+pub returns-in_default : goal.returns-in_default
+returns-in_default c =
     let bs = c.args.self.now.bytes.now in
     let at = c.args.self.now.at in
     let lo : 0 < length (tail_at bs at) = search rules in

@@ -3,12 +3,12 @@ ghost use Rattle.steps.specs.Refusals.{refusal_number};
 ghost use Rattle.rows.specs.Calls.{unmakable, unmakable_number, one_start};
 ghost use Rattle.rows.specs.Runs.{LifeLaw};
 ghost use Rattle.enumerators.specs.Memories.{memories};
-ghost use Rattle.rows.specs.Lawful.{CombinationRow, AllAhead, CombinationRow};
+ghost use Rattle.rows.specs.Lawful.{CombinationRow, AllAhead};
 ghost use Rattle.rows.specs.Lists.{combination_rows, ahead_from, rising};
 ghost use Rattle.rows.proofs.Families.{combinations_listed};
+ghost use Rattle.rows.proofs.Limits.{few_small};
 ghost use Rattle.rows.proofs.Standing;
 ghost use Rattle.rows.proofs.Standing.{within_one, one_start_long};
-ghost use Rattle.std.proofs.Common.{rules, arith};
 
 use enumerators::{Call, Enumerator, check_limits, run};
 use steps::Refusal;
@@ -126,9 +126,9 @@ impl Enumerator for Combinations {
 
     ghost reaching = { λ s. one_start_long 64 s.r s.short };
 
-    ghost short = { first_of (Prim.search rules, Prim.grind (arith, Self.row.coded.inj)) };
+    ghost short = { λ s. s.short };
 
-    ghost small = { first_of (Prim.search rules, Prim.grind (arith, Self.row.coded.inj)) };
+    ghost small = { λ s. few_small s.n s.few };
 
     fn pool_len(&self) -> usize {
         self.n

@@ -3,13 +3,13 @@ ghost use Rattle.steps.specs.Refusals.{refusal_number};
 ghost use Rattle.rows.specs.Calls.{unmakable, unmakable_number, one_start};
 ghost use Rattle.rows.specs.Runs.{LifeLaw};
 ghost use Rattle.enumerators.specs.Memories.{memories};
-ghost use Rattle.rows.specs.Lawful.{PermutationRow, AllAhead, PermutationRow};
+ghost use Rattle.rows.specs.Lawful.{PermutationRow, AllAhead};
 ghost use Rattle.rows.specs.Lists.{permutation_rows, ahead_from, among, differing, rising};
 ghost use Rattle.rows.specs.Cycles.{Cycling, Turned, rotated, above, row_length};
 ghost use Rattle.rows.proofs.Families.{permutations_listed};
+ghost use Rattle.rows.proofs.Limits.{few_small};
 ghost use Rattle.rows.proofs.Standing;
 ghost use Rattle.rows.proofs.Standing.{within_one, one_start_long};
-ghost use Rattle.std.proofs.Common.{rules, arith};
 
 use enumerators::{Call, Enumerator, check_limits, run};
 use steps::Refusal;
@@ -157,9 +157,9 @@ impl Enumerator for Permutations {
 
     ghost reaching = { λ s. one_start_long 64 s.r s.short };
 
-    ghost short = { first_of (Prim.search rules, Prim.grind (arith, Self.row.coded.inj)) };
+    ghost short = { λ s. s.short };
 
-    ghost small = { first_of (Prim.search rules, Prim.grind (arith, Self.row.coded.inj)) };
+    ghost small = { λ s. few_small s.n s.few };
 
     fn pool_len(&self) -> usize {
         self.n

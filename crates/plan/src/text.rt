@@ -28,7 +28,8 @@ fn write_block(out: &mut String, block: Block) -> fmt::Result
     ensures { OnOk result (string_bytes out.new ≡ string_bytes out.old ++ block_line block) }
 {
     let (bay, stay) = (Bay(block.bay), Stay(block));
-    writeln!(out, "  {bay}  {stay}")
+    writeln!(out, "  {bay}  {stay}")?;
+    Ok(())
 }
 
 fn write_blocks(out: &mut String, blocks: &[Block]) -> fmt::Result
@@ -51,7 +52,8 @@ fn write_fault(out: &mut String, fault: Fault) -> fmt::Result
     };
     let cause = fault.cause;
     let reason = reason(cause);
-    writeln!(out, "  byte {place}  cause {cause}: {reason}")
+    writeln!(out, "  byte {place}  cause {cause}: {reason}")?;
+    Ok(())
 }
 
 fn write_faults(out: &mut String, faults: &[Fault]) -> fmt::Result
@@ -69,7 +71,8 @@ fn write_out_of_order(out: &mut String, first: Block, second: Block) -> fmt::Res
     ensures { OnOk result (string_bytes out.new ≡ string_bytes out.old ++ seam_line first second Seam.BayOutOfOrder) }
 {
     let (bay, other) = (Bay(first.bay), second.bay);
-    writeln!(out, "  {bay}  is followed by bay {other}: out of order")
+    writeln!(out, "  {bay}  is followed by bay {other}: out of order")?;
+    Ok(())
 }
 
 fn write_overlap(out: &mut String, first: Block, second: Block, minutes: u16) -> fmt::Result
@@ -79,7 +82,8 @@ fn write_overlap(out: &mut String, first: Block, second: Block, minutes: u16) ->
     writeln!(
         out,
         "  {bay}  {stay}  then {next}  starts {minutes} min too early"
-    )
+    )?;
+    Ok(())
 }
 
 fn write_gap(out: &mut String, first: Block, second: Block, minutes: u16) -> fmt::Result
@@ -90,7 +94,8 @@ fn write_gap(out: &mut String, first: Block, second: Block, minutes: u16) -> fmt
     writeln!(
         out,
         "  {bay}  {stay}  then {next}  {minutes} min unassigned"
-    )
+    )?;
+    Ok(())
 }
 
 // One line for a pair of a bay, and for a bay out of order.

@@ -10,7 +10,6 @@ ghost use Rattle.rows.specs.Lists.{tuples, product_rows, ahead_from};
 ghost use Rattle.rows.proofs.Order.{Fitting};
 ghost use Rattle.rows.proofs.Standing;
 ghost use Rattle.rows.proofs.Carries.{tuples_taken, tuples_within};
-ghost use Rattle.std.proofs.Common.{rules, arith};
 
 use crate::counter::Counter;
 use enumerators::{Call, Enumerator, check_limits, run};
@@ -124,11 +123,11 @@ impl Enumerator for Product {
         let k = s.counter in
         tuples_within s.size k.width s.starts k.lengths k.lengths s.long s.lying k.stop (take k.width k.idxs) };
 
-    ghost reaching = { first_of (Prim.search rules, Prim.grind (arith, Self.row.coded.inj)) };
+    ghost reaching = { λ s. s.reach };
 
-    ghost short = { first_of (Prim.search rules, Prim.grind (arith, Self.row.coded.inj)) };
+    ghost short = { λ s. s.short };
 
-    ghost small = { first_of (Prim.search rules, Prim.grind (arith, Self.row.coded.inj)) };
+    ghost small = { λ s. s.few };
 
     fn pool_len(&self) -> usize {
         self.size

@@ -41,3 +41,7 @@ module _ (elements places : ℕ) where
 
   pub one_pool : (n : ℕ) → some_above elements (n ∷ []) ≡ false → n ≤ elements
   one_pool n h = ltb-false elements n (or_parts (ltb elements n) false h).0
+
+-- a pool of one making is short enough for a position in it to fit 16 bits
+pub few_small : (n : ℕ) → n ≤ 256 → n ≤ 16384
+few_small n h = omega arith

@@ -5,7 +5,7 @@ use Rattle.plan.specs.declared.seam.Seam.TheVariants.{OtherBay}
 use Rattle.plan.specs.Seams.{one_if, count}
 use Rattle.plan.proofs.Joints.{count_more}
 use Rattle.plan.proofs.seam.count_findings.Goals as goal
-use Rattle.plan.proofs.seam.count_findings.Goals.{then_is, else_is}
+use Rattle.plan.proofs.seam.count_findings.Goals.{then-is, else-is}
 
 pub loop-joint-preserved : goal.loop-joint-preserved
 loop-joint-preserved c =
@@ -14,8 +14,8 @@ loop-joint-preserved c =
     let d : Joint = record { first = record { bus = 0; bay = 0; start = 0; end = 0 }; second = record { bus = 0; bay = 0; start = 0; end = 0 }; seam = OtherBay } in
     let m = count_more c.args.finding js i c.loop-joint.n _ d c.loop-joint-test.true c.loop-joint.invariant.0 in
     elim c.if-is.branch [
-      | then_is w ↦ (let one = ap one_if (sym c.is.ensures ∙ w.if-is.true) in (omega (arith, m, one, w.n-is), omega (arith, w.n-is, c.loop-joint.invariant.1)))
-      | else_is w ↦ (let none = ap one_if (sym c.is.ensures ∙ w.if-is.false) in (omega (arith, m, none, w.n-is), omega (arith, w.n-is, c.loop-joint.invariant.1)))
+      | then-is w ↦ (let one = ap one_if (sym c.is.ensures ∙ w.if-is.true) in (omega (arith, m, one, w.n-is), omega (arith, w.n-is, c.loop-joint.invariant.1)))
+      | else-is w ↦ (let none = ap one_if (sym c.is.ensures ∙ w.if-is.false) in (omega (arith, m, none, w.n-is), omega (arith, w.n-is, c.loop-joint.invariant.1)))
     ]
 
 pub returns : goal.returns

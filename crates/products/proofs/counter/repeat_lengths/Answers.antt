@@ -3,8 +3,8 @@ use Rattle.std.proofs.ByRecursion.{All-get_or}
 use Rattle.rows.proofs.Writing.{written_more}
 use Rattle.products.proofs.counter.repeat_lengths.Goals as goal
 
-pub overflow-cast-repeated : goal.overflow-cast-repeated
-overflow-cast-repeated c =
+pub overflow_cast-repeated : goal.overflow_cast-repeated
+overflow_cast-repeated c =
     let xs = c.args.lengths.now in
     let pos : 0 < length xs = omega arith in
     omega (arith, All-get_or (λ n. n ≤ 256) xs (c.loop-i.i % length xs) 0 (mod-lt c.loop-i.i pos) c.requires.0)

@@ -15,8 +15,8 @@ total-requires c =
     let m = c.loop-i.i % length xs in
     (subst (All (λ n. n ≤ 256)) (sym (part_front m xs)) (All-take (λ n. n ≤ 256) m xs c.requires.0), search rules)
 
-pub overflow-cast-starts : goal.overflow-cast-starts
-overflow-cast-starts c =
+pub overflow_cast-starts : goal.overflow_cast-starts
+overflow_cast-starts c =
     let xs = c.args.lengths.now in
     let m = c.loop-i.i % length xs in
     omega (arith, c.total.ensures, ap sum (part_front m xs), sum_by-take-le (λ x. x) xs m, sum_small 256 64 xs c.requires.0 c.requires.1.0)

@@ -8,21 +8,18 @@ use Rattle.rows.proofs.Climbing.{its_number, combination_climbs, combinations_no
 use Rattle.rows.proofs.Standing.{all_ahead}
 use Rattle.combinations.proofs.combinations.Combinations.new.Goals as goal
 
-pub invariant-of-result : goal.invariant-of-result
-invariant-of-result c =
+pub invariant_of-result : goal.invariant_of-result
+invariant_of-result c =
     let n = c.args.n in
     let r = c.args.r in
     let f = fits 256 64 (n ∷ []) r c.in_ok-check_limits.ensures.answer in
-    let at = c.counting.ensures in (
-      one_pool 256 64 n f.pools,
-      (
-        f.short,
-        (
-          (λ e k k<. omega (arith, ltb-false n r (sym c.has_no_row.ensures ∙ e), at k (omega (arith, f.short)))),
-          ((λ e. counting_rises r c.counting.result (omega (arith, f.short)) (λ k k<. at k (omega (arith, f.short)))), tt),
-        ),
-      ),
-    )
+    let at = c.counting.ensures in
+    record {
+      few = one_pool 256 64 n f.pools;
+      short = f.short;
+      below = λ e k k<. omega (arith, ltb-false n r (sym c.has_no_row.ensures ∙ e), at k (omega (arith, f.short)));
+      climbing = λ e. counting_rises r c.counting.result (omega (arith, f.short)) (λ k k<. at k (omega (arith, f.short)));
+    }
 
 pub returns : goal.returns
 returns c =

@@ -7,21 +7,18 @@ use Rattle.rows.proofs.Climbing.{nothing_above, replacement_climbs, some_element
 use Rattle.rows.proofs.Standing.{all_ahead}
 use Rattle.combinations.proofs.replacement.CombinationsWithReplacement.new.Goals as goal
 
-pub invariant-of-result : goal.invariant-of-result
-invariant-of-result c =
+pub invariant_of-result : goal.invariant_of-result
+invariant_of-result c =
     let n = c.args.n in
     let r = c.args.r in
     let f = fits 256 64 (n ∷ []) r c.in_ok-check_limits.ensures.answer in
-    let at = c.zeros.ensures in (
-      one_pool 256 64 n f.pools,
-      (
-        f.short,
-        (
-          (λ e k k<. omega (arith, some_element n r (sym c.has_no_row.ensures ∙ e) (omega arith), at k (omega (arith, f.short)))),
-          ((λ e. level_start r c.zeros.result (omega (arith, f.short)) (λ k k<. at k (omega (arith, f.short)))), tt),
-        ),
-      ),
-    )
+    let at = c.zeros.ensures in
+    record {
+      few = one_pool 256 64 n f.pools;
+      short = f.short;
+      below = λ e k k<. omega (arith, some_element n r (sym c.has_no_row.ensures ∙ e) (omega arith), at k (omega (arith, f.short)));
+      level = λ e. level_start r c.zeros.result (omega (arith, f.short)) (λ k k<. at k (omega (arith, f.short)));
+    }
 
 pub returns : goal.returns
 returns c =

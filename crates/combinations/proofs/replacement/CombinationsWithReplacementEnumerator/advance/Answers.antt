@@ -7,14 +7,14 @@ use Rattle.rows.proofs.Climbing.{nothing_above, replacement_taken, replacement_c
 use Rattle.rows.proofs.Standing.{stepped, stopped, some_ahead}
 use Rattle.combinations.proofs.replacement.CombinationsWithReplacementEnumerator.advance.Goals as goal
 
-pub invariant-of-self : goal.invariant-of-self
-invariant-of-self c =
+pub invariant_of-self : goal.invariant_of-self
+invariant_of-self c =
     let s = c.args.self.now in
     let law = replacement_taken s.n s.r s.indices (omega arith) (s.below c.if-self.false) (s.level c.if-self.false) in
     let h = replacement_raise s.n s.r c.pivot-i.result s.indices c.raise.new.indices law c.if-i-self.true
     (c.pivot-i.ensures.free c.if-i-self.true) (c.pivot-i.ensures.high c.if-i-self.true) c.raise.ensures.front c.raise.ensures.low in
     let new = replacement_raised s.n s.r c.pivot-i.result s.indices c.raise.new.indices (omega arith) law h in
-    (s.few, (s.short, ((λ e. new.0), ((λ e. new.1), tt))))
+    record { few = s.few; short = s.short; below = λ e. new.0; level = λ e. new.1 }
 
 pub returns-then-i-self : goal.returns-then-i-self
 returns-then-i-self c =

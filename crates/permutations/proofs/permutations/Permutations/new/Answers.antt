@@ -11,31 +11,23 @@ use Rattle.rows.proofs.Choosing.{permutations_none}
 use Rattle.rows.proofs.Standing.{all_ahead}
 use Rattle.permutations.proofs.permutations.Permutations.new.Goals as goal
 
-pub invariant-of-result : goal.invariant-of-result
-invariant-of-result c =
+pub invariant_of-result : goal.invariant_of-result
+invariant_of-result c =
     let n = c.args.n in
     let r = c.unwrap_or-places.result in
     let f = fits 256 64 (n ∷ []) r c.in_ok-check_limits.ensures.answer in
     let few = one_pool 256 64 n f.pools in
-    let start = λ (l : r ≤ n). cycling_start n r c.counting.result c.full_cycles.result l (omega arith) (λ k k<. c.counting.ensures k (omega arith)) (λ k k<. c.full_cycles.ensures l k k<) in (
-      few,
-      (
-        f.short,
-        (
-          (λ e. ltb-false n r (sym c.has_no_row.ensures ∙ e)),
-          (
-            (λ e. (start (ltb-false n r (sym c.has_no_row.ensures ∙ e))).every),
-            (
-              (λ e. (start (ltb-false n r (sym c.has_no_row.ensures ∙ e))).below),
-              (
-                (λ e. (start (ltb-false n r (sym c.has_no_row.ensures ∙ e))).apart),
-                ((λ e. (start (ltb-false n r (sym c.has_no_row.ensures ∙ e))).climbing), ((λ e. (start (ltb-false n r (sym c.has_no_row.ensures ∙ e))).counters), tt)),
-              ),
-            ),
-          ),
-        ),
-      ),
-    )
+    let start = λ (l : r ≤ n). cycling_start n r c.counting.result c.full_cycles.result l (omega arith) (λ k k<. c.counting.ensures k (omega arith)) (λ k k<. c.full_cycles.ensures l k k<) in
+    record {
+      few = few;
+      short = f.short;
+      fitting = λ e. ltb-false n r (sym c.has_no_row.ensures ∙ e);
+      every = λ e. (start (ltb-false n r (sym c.has_no_row.ensures ∙ e))).every;
+      below = λ e. (start (ltb-false n r (sym c.has_no_row.ensures ∙ e))).below;
+      apart = λ e. (start (ltb-false n r (sym c.has_no_row.ensures ∙ e))).apart;
+      climbing = λ e. (start (ltb-false n r (sym c.has_no_row.ensures ∙ e))).climbing;
+      counters = λ e. (start (ltb-false n r (sym c.has_no_row.ensures ∙ e))).counters;
+    }
 
 pub returns : goal.returns
 returns c =

@@ -23,8 +23,8 @@ new-requires c =
     let f = fits 256 64 xs c.row_length-width.result c.in_ok-check_limits.ensures.answer in
     (all_short 256 xs f.pools, (f.short, λ pos. some_pool (length xs) c.args.repeat (omega (arith, c.row_length-width.ensures))))
 
-pub invariant-of-result : goal.invariant-of-result
-invariant-of-result c =
+pub invariant_of-result : goal.invariant_of-result
+invariant_of-result c =
     let xs = c.args.lengths.now in
     let w = c.row_length-width.result in
     let f = fits 256 64 xs w c.in_ok-check_limits.ensures.answer in
@@ -39,10 +39,17 @@ invariant-of-result c =
       h.lengths i (omega arith),
       c.total.ensures,
       start_fits xs i (some_pool (length xs) c.args.repeat (omega (arith, c.row_length-width.ensures))),
-    ) in (
-      omega (arith, c.total.ensures, sum_small 256 64 xs (all_short 256 xs f.pools) f.few),
-      (fit, (omega arith, (omega arith, (omega arith, (lie, ((λ i i< pos. omega (arith, h.zeros i (omega arith))), ((λ e pos. h.last (omega arith) ∙ sym wide), tt))))))),
-    )
+    ) in
+    record {
+      few = omega (arith, c.total.ensures, sum_small 256 64 xs (all_short 256 xs f.pools) f.few);
+      short = fit;
+      long = omega arith;
+      room = omega arith;
+      reach = omega arith;
+      lying = lie;
+      inside = λ i i< pos. omega (arith, h.zeros i (omega arith));
+      brought = λ e pos. h.last (omega arith) ∙ sym wide;
+    }
 
 pub returns : goal.returns
 returns c =

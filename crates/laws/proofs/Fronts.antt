@@ -1,5 +1,5 @@
 -- The longest front that a predicate accepts: takewhile gives it, dropwhile what is behind it.
-use Rattle.std.proofs.Common.{◌≡◌, Bool, ◌⊎◌, List, [], ◌∷◌, ◌++◌, map, Result, refl, ap, ◌∙◌, ⊎_elim}
+use Rattle.std.proofs.Common.{◌≡◌, Bool, List, [], ◌∷◌, ◌++◌, map, Result, refl, ap, ◌∙◌, ⊎_elim}
 use Rattle.steps.specs.declared.fault.Fault.{Fault}
 use Rattle.steps.specs.declared.answer.Step.{Step}
 use Rattle.steps.specs.declared.answer.Step.TheVariants.{Item as item}

@@ -1,5 +1,5 @@
 -- zip_longest of two: pairs until both sources have ended, with a fill for the one that ended first.
-use Rattle.std.specs.Prelude.{◌≡◌, ℕ, ◌-◌, List, [], ◌∷◌, map, Some, None, Option}
+use Rattle.std.specs.Prelude.{◌≡◌, ℕ, List, [], ◌∷◌, map, Some, None, Option}
 use Rattle.std.specs.List.{slice_get}
 use Rattle.steps.specs.declared.answer.Step.{Step}
 use Rattle.steps.specs.declared.answer.Step.TheVariants.{Item as item, Fault as fault}

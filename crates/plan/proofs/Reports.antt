@@ -1,5 +1,5 @@
 -- The report, from its parts.
-use Rattle.std.proofs.Common.{◌≡◌, ℕ, true, false, List, [], ◌++◌, length, codes, sym, refl, ap, ◌∙◌, ⊎_elim}
+use Rattle.std.proofs.Common.{◌≡◌, ℕ, true, false, List, ◌++◌, length, codes, ap, ◌∙◌, ⊎_elim}
 use Rattle.steps.specs.declared.fault.Fault.{Fault}
 use Rattle.steps.specs.declared.answer.Step.{Step}
 use Rattle.laws.specs.Items.{items, faults}
@@ -10,7 +10,7 @@ use Rattle.plan.specs.Seams.{joints, count}
 use Rattle.std.proofs.lemmas.List.{append_assoc}
 use Rattle.std.proofs.lemmas.Bool.{cases_Bool, cond-true, cond-false}
 use Rattle.plan.specs.declared.seam.Finding.TheVariants.{Pair}
-use Rattle.plan.specs.Plans.{Sound, tally_of, all_clear}
+use Rattle.plan.specs.Plans.{tally_of, all_clear}
 use Rattle.plan.specs.Texts.{account_text}
 use Rattle.plan.specs.Verdicts.{verdict_line, failed_line}
 use Rattle.plan.specs.Reports.{report_text, TellsSound}

@@ -1,12 +1,12 @@
 -- One call of `next`.
-use Rattle.std.proofs.Common.{◌≡◌, ℕ, ◌+◌, ◌-◌, ◌<◌, ◌≤◌, Bool, true, false, cond, ◌||◌, eqb, ltb, List, [], ◌∷◌, ◌++◌, length, take, drop, Some, None, Ok, Err, sym, refl, ap, ◌∙◌, subst, arith}
+use Rattle.std.proofs.Common.{◌≡◌, ℕ, ◌-◌, ◌<◌, ◌≤◌, Bool, true, false, cond, ◌||◌, eqb, ltb, List, ◌∷◌, take, Some, None, Ok, refl, subst, arith}
 use native.Mathlib.Nat.{sub-zero}
 use borrow.Rule.Slice.PartMut.{mid_of}
 use Rattle.std.specs.List.{AllByRecursion as All}
 use Rattle.std.proofs.ByRecursion.{All-weaker}
 use Rattle.std.proofs.lemmas.Bool.{eqb-true, ltb-false}
 use Rattle.steps.specs.declared.refusal.Refusal.TheVariants.{OtherPool, ShortBuffer}
-use Rattle.rows.specs.Calls.{positions, other_rows, earned, allowed}
+use Rattle.rows.specs.Calls.{earned, allowed}
 
 -- what holds of all rows ahead holds of the first
 pub of_first : (P : List ℕ → Type 0) (rows : List (List ℕ)) (row : List ℕ) (rest : List (List ℕ)) → rows ≡ row ∷ rest → All P rows → P row

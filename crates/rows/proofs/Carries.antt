@@ -1,5 +1,5 @@
 -- Products: the row after one.
-use Rattle.std.proofs.Common.{◌≡◌, ℕ, zero, suc, ◌+◌, ◌-◌, ◌*◌, ◌%◌, ◌<◌, ◌≤◌, Bool, true, false, ◌||◌, eqb, ltb, ◌⊎◌, List, [], ◌∷◌, ◌++◌, length, get_or, take, drop, sum, sym, refl, ap, ◌∙◌, subst, inl, inr, ⊎_elim, le_trans, mul-le-mul_right, mod-lt, zero-mul, arith, length-take-le, get_or-take}
+use Rattle.std.proofs.Common.{◌≡◌, ℕ, zero, suc, ◌+◌, ◌*◌, ◌%◌, ◌<◌, ◌≤◌, Bool, true, false, ◌||◌, eqb, ltb, ◌⊎◌, List, [], ◌∷◌, length, get_or, take, drop, sum, sym, refl, ap, ◌∙◌, subst, inl, inr, ⊎_elim, le_trans, mul-le-mul_right, mod-lt, zero-mul, arith, length-take-le, get_or-take}
 use Rattle.std.specs.List.{AllByRecursion as All}
 use Rattle.std.proofs.lemmas.List.{drop_more, drop_all, ext_get_or}
 use Rattle.std.proofs.ByRecursion.{All-weaker, sum_by_le}
@@ -8,7 +8,7 @@ use Rattle.rows.specs.Lawful.{ProductRow, AllAhead, AllInOrder}
 use Rattle.rows.specs.Lists.{tuples, from, ahead_from, repeated, product_rows}
 use Rattle.rows.specs.Calls.{other_rows, positions, some_above}
 use Rattle.rows.specs.Carries.{Carried, Inside, some_empty, pool_start}
-use Rattle.rows.specs.Successor.{Agree, Next, Last, First}
+use Rattle.rows.specs.Successor.{Next, Last, First}
 use Rattle.rows.proofs.Order.{Fitting}
 use Rattle.rows.proofs.Places.{fits_length, fits_below, fits_from}
 use Rattle.rows.proofs.Successor.{Listed, beginning}

@@ -1,11 +1,10 @@
 -- Numbers below n that all differ are at most n: so there is no permutation of more places than elements.
-use Rattle.std.proofs.Common.{◌≡◌, ℕ, zero, suc, ◌+◌, ◌<◌, ◌≤◌, Bool, true, false, cond, not, ◌&&◌, eqb, ◌⊎◌, List, [], ◌∷◌, length, get_or, filter, sym, refl, ap, ◌∙◌, subst, inl, inr, ⊎_elim, arith}
+use Rattle.std.proofs.Common.{◌≡◌, ℕ, zero, suc, ◌+◌, ◌<◌, ◌≤◌, true, false, not, eqb, List, [], ◌∷◌, length, filter, sym, refl, ap, ◌∙◌, subst, ⊎_elim, arith}
 use Rattle.std.specs.List.{AllByRecursion as All}
 use Rattle.std.proofs.ByRecursion.{All-weaker, All-from_get_or}
-use Rattle.std.proofs.lemmas.Bool.{cases_Bool, and_parts, and_from, not-true, or_cases, or_left, or_right, eqb-true, eqb-false, eq-eqb, ne_eqb, cond-true, cond-false, both_ways, true≢false, cases_order}
+use Rattle.std.proofs.lemmas.Bool.{cases_Bool, and_parts, and_from, not-true, or_cases, or_left, or_right, eqb-true, eqb-false, eq-eqb, ne_eqb, cond-true, cond-false, both_ways, cases_order}
 use Rattle.rows.specs.Lawful.{PermutationRow}
 use Rattle.rows.specs.Lists.{among, differing, permutation_rows}
-use Rattle.rows.proofs.Successor.{Listed}
 use Rattle.rows.proofs.Families.{permutations_listed}
 use Rattle.rows.proofs.Places.{differing_from}
 use Rattle.rows.proofs.Climbing.{nothing}

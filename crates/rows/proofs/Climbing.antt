@@ -1,14 +1,13 @@
 -- Combinations, with and without replacement: rows whose place k is at least as far above place i as `lift` says,
 -- which is k for combinations and 0 with replacement.
-use Rattle.std.proofs.Common.{◌≡◌, ℕ, zero, suc, ◌+◌, ◌-◌, ◌<◌, ◌≤◌, true, false, ◌&&◌, eqb, ltb, ◌⊎◌, List, [], ◌∷◌, length, get_or, take, sym, refl, ap, ◌∙◌, subst, inl, inr, ⊎_elim, arith, length-take-le, get_or-take}
+use Rattle.std.proofs.Common.{◌≡◌, ℕ, zero, suc, ◌+◌, ◌-◌, ◌<◌, ◌≤◌, true, false, ◌&&◌, eqb, ltb, List, [], ◌∷◌, length, get_or, take, sym, refl, ap, subst, ⊎_elim, arith, length-take-le, get_or-take}
 use Rattle.std.specs.List.{AllByRecursion as All}
 use Rattle.std.proofs.ByRecursion.{All-weaker}
 use Rattle.std.proofs.lemmas.Bool.{cases_lt, cases_order, and_parts, and_cases, eqb-true, eqb-false, ltb-true, ltb-false}
 use Rattle.rows.specs.Lawful.{CombinationRow, ReplacementRow}
 use Rattle.rows.specs.Lists.{combination_rows, replacement_rows, rising, unfalling}
 use Rattle.rows.specs.Raised.{Raised}
-use Rattle.rows.specs.Successor.{Agree, Next, Last, First}
-use Rattle.rows.proofs.Successor.{Listed}
+use Rattle.rows.specs.Successor.{Next, Last, First}
 use Rattle.rows.proofs.Families.{combinations_listed, replacements_listed}
 use Rattle.rows.proofs.Places.{rising_at, rising_from, unfalling_at, unfalling_from}
 

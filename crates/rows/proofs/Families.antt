@@ -1,11 +1,10 @@
 -- The lists of the four kinds hold all lawful rows, in order.
-use Rattle.std.proofs.Common.{◌≡◌, ℕ, zero, suc, ◌+◌, ◌-◌, ◌*◌, ◌%◌, ◌<◌, ◌≤◌, Bool, true, false, ◌⊎◌, List, [], ◌∷◌, ◌++◌, length, get_or, replicate, filter, sym, refl, ap, ◌∙◌, subst, inl, inr, ⊎_elim, mod-eq_of_lt, mul-zero, mul-suc, arith}
+use Rattle.std.proofs.Common.{◌≡◌, ℕ, zero, suc, ◌+◌, ◌-◌, ◌*◌, ◌%◌, ◌<◌, Bool, true, List, [], ◌∷◌, length, get_or, replicate, filter, sym, refl, ap, ◌∙◌, subst, ⊎_elim, mod-eq_of_lt, mul-zero, mul-suc, arith}
 use native.Mathlib.Nat.{add-mod_left}
-use Rattle.std.specs.List.{AllByRecursion as All}
 use Rattle.std.proofs.lemmas.List.{length-replicate, get_or-replicate, length-append, get_or_append_left, get_or-append_right}
 use Rattle.std.proofs.ByRecursion.{all_kept_by, All-get_or, All-weaker, kept_by_passes}
 use Rattle.std.proofs.lemmas.Bool.{cases_lt}
-use Rattle.rows.specs.Lawful.{Before, AllInOrder, ProductRow, CombinationRow, ReplacementRow, PermutationRow}
+use Rattle.rows.specs.Lawful.{AllInOrder, ProductRow, CombinationRow, ReplacementRow, PermutationRow}
 use Rattle.rows.specs.Lists.{tuples, rising, unfalling, differing, repeated, product_rows, combination_rows, replacement_rows, permutation_rows}
 use Rattle.rows.proofs.Order.{◌≺◌, Asc, In, all_both, asc_kept, asc_tuples, tuples_fit, in_tuples, in_kept, Fitting}
 use Rattle.rows.proofs.Places.{before_from_less, fits_length, fits_below, fits_from, rising_at, rising_from, unfalling_at, unfalling_from, differing_at, differing_from}

@@ -1,5 +1,5 @@
 -- Every history of next calls is lawful.
-use Rattle.std.proofs.Common.{◌≡◌, ℕ, zero, suc, ◌+◌, ◌-◌, ◌<◌, ◌≤◌, Bool, true, false, cond, ◌||◌, eqb, ltb, ◌⊎◌, List, [], ◌∷◌, ◌++◌, length, get_or, take, drop, Some, None, Ok, Err, Option, Result, sym, refl, ap, ◌∙◌, subst, inl, inr, ⊎_elim, zero-add, arith, length-drop}
+use Rattle.std.proofs.Common.{◌≡◌, ℕ, zero, suc, ◌+◌, ◌-◌, ◌<◌, ◌≤◌, Bool, true, false, cond, ◌||◌, eqb, ltb, List, [], ◌∷◌, ◌++◌, length, get_or, take, drop, Some, None, Ok, Err, Option, Result, sym, refl, ap, ◌∙◌, subst, arith, length-drop}
 use Rattle.std.specs.List.{slice_get}
 use Rattle.std.proofs.lemmas.List.{get_or-drop, drop-drop}
 use Rattle.steps.specs.declared.answer.Answer.{Answer}
@@ -8,7 +8,7 @@ use Rattle.steps.specs.declared.refusal.Refusal.{Refusal}
 use Rattle.steps.specs.Refusals.{refusal_number}
 use Rattle.steps.specs.declared.refusal.Refusal.TheVariants.{OtherPool, ShortBuffer}
 use Rattle.rows.specs.Calls.{earned, earned_number, answered, told, if_given, UnlessGiven, first_row, other_rows, at_front, positions, picked}
-use Rattle.rows.specs.Runs.{Memory, earns, one_unless_refused, counted, CallLaw, HistoryLaw, Linked, Leads, Led, EveryHistory}
+use Rattle.rows.specs.Runs.{Memory, earns, one_unless_refused, counted, CallLaw, Linked, Leads, EveryHistory}
 
 -- the rows that one call leaves
 left_one : (o : Option Refusal) (rows : List (List ℕ)) → if_given (answered o rows) (other_rows rows) rows ≡ drop (one_unless_refused o) rows

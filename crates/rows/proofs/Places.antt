@@ -1,8 +1,8 @@
 -- The order place by place, and the tests of rows as laws of their places.
-use Rattle.std.proofs.Common.{◌≡◌, ℕ, zero, suc, ◌+◌, ◌-◌, ◌<◌, ◌≤◌, Bool, true, false, cond, not, ◌&&◌, ◌||◌, eqb, ltb, leb, ◌⊎◌, List, [], ◌∷◌, ◌++◌, length, get_or, replicate, sym, refl, ap, ◌∙◌, subst, inl, inr, ⊎_elim, add-one, arith}
-use Rattle.std.proofs.lemmas.Bool.{ltb-true, lt-ltb, leb-true, le-leb, and_parts, and_from, true≢false, eq-eqb, eqb-true, ne_eqb, or_cases, or_left, or_right, not-true, cases_Bool, both_ways}
+use Rattle.std.proofs.Common.{◌≡◌, ℕ, zero, suc, ◌+◌, ◌-◌, ◌<◌, ◌≤◌, true, not, eqb, ltb, leb, List, [], ◌∷◌, length, get_or, sym, refl, ap, subst, ⊎_elim, arith}
+use Rattle.std.proofs.lemmas.Bool.{ltb-true, lt-ltb, leb-true, le-leb, and_parts, and_from, true≢false, eq-eqb, eqb-true, or_cases, or_left, or_right, not-true, cases_Bool, both_ways}
 use Rattle.rows.specs.Lawful.{Before}
-use Rattle.rows.specs.Lists.{less, rising, unfalling, among, differing}
+use Rattle.rows.specs.Lists.{rising, unfalling, among, differing}
 use Rattle.rows.proofs.Order.{◌≺◌, less_cases, less_here, less_later, Fitting}
 
 -- ---- the order

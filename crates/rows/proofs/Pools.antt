@@ -1,10 +1,10 @@
 -- Where the elements of a product lie.
-use Rattle.std.proofs.Common.{◌≡◌, ℕ, zero, suc, ◌+◌, ◌-◌, ◌%◌, ◌<◌, ◌≤◌, List, [], ◌∷◌, ◌++◌, map, length, get_or, take, drop, sum, sym, refl, ap, ◌∙◌, subst, add_assoc, zero-add, arith, length-drop}
+use Rattle.std.proofs.Common.{◌≡◌, ℕ, zero, suc, ◌+◌, ◌%◌, ◌<◌, List, [], ◌∷◌, ◌++◌, map, length, get_or, take, drop, sum, sym, refl, ap, ◌∙◌, add_assoc, zero-add, arith, length-drop}
 use Rattle.std.specs.List.{flat_map}
 use Rattle.std.proofs.lemmas.List.{drop-append-le, take-append-le, drop-drop, drop_at, length-map}
 use Rattle.std.proofs.lemmas.List.Sums.{sum_by-cons}
 use Rattle.rows.specs.Calls.{one_at}
-use Rattle.rows.specs.Carries.{pool_start, PoolByPool}
+use Rattle.rows.specs.Carries.{PoolByPool}
 
 in_first : {T : Type 0} (xs ys : List T) (p : ℕ) → p < length xs → one_at (xs ++ ys) p ≡ one_at xs p
 in_first xs ys p l =

@@ -1,11 +1,11 @@
 -- The rows from one on, by the row that comes next, for any law.
-use Rattle.std.proofs.Common.{◌≡◌, ℕ, ◌+◌, ◌-◌, ◌<◌, ◌≤◌, true, false, ◌⊎◌, List, [], ◌∷◌, length, get_or, take, sym, refl, ap, ◌∙◌, subst, inl, inr, ⊎_elim, arith, length-take-le, get_or-take}
+use Rattle.std.proofs.Common.{◌≡◌, ℕ, ◌<◌, ◌≤◌, false, List, [], ◌∷◌, length, get_or, take, sym, ap, ◌∙◌, subst, ⊎_elim, arith, length-take-le, get_or-take}
 use Rattle.std.specs.List.{AllByRecursion as All}
-use Rattle.std.proofs.ByRecursion.{All-weaker, all_kept_by}
+use Rattle.std.proofs.ByRecursion.{All-weaker}
 use Rattle.std.proofs.lemmas.Bool.{cases_Bool, cases_order, cases_lt}
 use Rattle.rows.specs.Lawful.{Before}
-use Rattle.rows.specs.Lists.{less, from, ahead_from}
-use Rattle.rows.specs.Calls.{other_rows, first_row}
+use Rattle.rows.specs.Lists.{less, from}
+use Rattle.rows.specs.Calls.{other_rows}
 use Rattle.rows.specs.Successor.{Agree, Next, Last, First}
 use Rattle.rows.proofs.Order.{◌≺◌, Asc, In, from_step, from_last, from_first, from_head}
 use Rattle.rows.proofs.Places.{before_from_less, less_from_before}

@@ -1,5 +1,5 @@
 -- The counter of a product: how a place is raised, where the pools start in the lent list.
-use Rattle.std.specs.Prelude.{◌≡◌, ℕ, ◌+◌, ◌%◌, ◌<◌, ◌≤◌, Bool, true, false, ◌||◌, List, [], ◌∷◌, map, length, get_or, take, sum, ◌==◌, slice_index, slice_index_or}
+use Rattle.std.specs.Prelude.{◌≡◌, ℕ, ◌+◌, ◌%◌, ◌<◌, ◌≤◌, Bool, false, ◌||◌, List, [], ◌∷◌, map, length, get_or, take, sum, ◌==◌, slice_index, slice_index_or}
 use Rattle.std.specs.List.{flat_map}
 use Rattle.rows.specs.Calls.{one_at}
 use Rattle.rows.specs.Successor.{Agree}

@@ -1,5 +1,5 @@
 -- The state of permutations: all places of a pool, and a counter for each place of the row.
-use Rattle.std.specs.Prelude.{◌≡◌, ℕ, suc, ◌+◌, ◌<◌, ◌≤◌, Bool, true, false, cond, List, [], ◌∷◌, ◌++◌, length, take, drop, Some, None, Option, nat_lt, slice_index}
+use Rattle.std.specs.Prelude.{◌≡◌, ℕ, suc, ◌+◌, ◌<◌, ◌≤◌, Bool, true, false, cond, List, [], ◌∷◌, ◌++◌, take, drop, Some, None, Option, nat_lt, slice_index}
 use Rattle.rows.specs.Lawful.{PermutationRow}
 use Rattle.rows.specs.Lists.{among, differing, rising}
 use Rattle.rows.specs.Successor.{Agree, Next, Last}

@@ -1,4 +1,4 @@
-use Rattle.std.proofs.Common.{◌<◌, length, get_or, arith, rules}
+use Rattle.std.proofs.Common.{◌<◌, length, arith, rules}
 use Rattle.std.proofs.ByRecursion.{All-get_or}
 use Rattle.rows.proofs.Writing.{copied_more, copied_all}
 use Rattle.enumerators.proofs.copy.copy.Goals as goal

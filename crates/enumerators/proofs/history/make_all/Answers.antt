@@ -1,5 +1,5 @@
-use Rattle.std.proofs.Common.{◌≡◌, ◌+◌, ◌<◌, [], ◌∷◌, ◌++◌, map, length, get_or, take, drop, set, sym, ap, ◌∙◌, subst, arith}
-use Rattle.std.proofs.lemmas.List.{take_more, take_more_set, map_push, drop-set-lt, drop_more, take_all, drop-drop, get_or-drop}
+use Rattle.std.proofs.Common.{◌≡◌, ◌+◌, ◌<◌, [], ◌∷◌, ◌++◌, length, get_or, take, set, sym, ap, ◌∙◌, subst, arith}
+use Rattle.std.proofs.lemmas.List.{take_more, take_more_set, map_push, drop-set-lt, take_all}
 use Rattle.rows.specs.Runs.{Linked, Leads}
 use Rattle.rows.proofs.Histories.{leads_push, every_history, same_ahead, same_behind}
 use Rattle.enumerators.specs.Memories.{memory, memories}

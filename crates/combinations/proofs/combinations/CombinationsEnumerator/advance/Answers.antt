@@ -1,7 +1,6 @@
-use Rattle.std.proofs.Common.{◌≡◌, ◌≤◌, length, refl, arith}
+use Rattle.std.proofs.Common.{refl, arith}
 use Rattle.rows.specs.Lawful.{CombinationRow}
 use Rattle.rows.specs.Lists.{combination_rows}
-use Rattle.rows.specs.Raised.{Raised}
 use Rattle.rows.proofs.Families.{combinations_listed}
 use Rattle.rows.proofs.Climbing.{its_number, combination_taken, combination_climbs, combination_raised, combination_raise, combination_top, raised_next}
 use Rattle.rows.proofs.Standing.{stepped, stopped, some_ahead}

@@ -1,4 +1,4 @@
-use Rattle.std.proofs.Common.{◌≡◌, [], ◌∷◌, sym, refl, ◌∙◌, arith}
+use Rattle.std.proofs.Common.{[], ◌∷◌, sym, refl, ◌∙◌, arith}
 use Rattle.rows.specs.Lawful.{ReplacementRow}
 use Rattle.rows.specs.Lists.{replacement_rows}
 use Rattle.rows.proofs.Families.{replacements_listed}

@@ -1,7 +1,6 @@
-use Rattle.std.proofs.Common.{◌≡◌, ◌≤◌, length, refl, arith}
+use Rattle.std.proofs.Common.{refl, arith}
 use Rattle.rows.specs.Lawful.{ReplacementRow}
 use Rattle.rows.specs.Lists.{replacement_rows}
-use Rattle.rows.specs.Raised.{Raised}
 use Rattle.rows.proofs.Families.{replacements_listed}
 use Rattle.rows.proofs.Climbing.{nothing_above, replacement_taken, replacement_climbs, replacement_raised, replacement_raise, replacement_top, raised_next}
 use Rattle.rows.proofs.Standing.{stepped, stopped, some_ahead}

@@ -1,4 +1,4 @@
-use Rattle.std.proofs.Common.{◌≡◌, refl, arith}
+use Rattle.std.proofs.Common.{refl, arith}
 use Rattle.rows.specs.Lawful.{PermutationRow}
 use Rattle.rows.specs.Lists.{permutation_rows}
 use Rattle.rows.proofs.Families.{permutations_listed}

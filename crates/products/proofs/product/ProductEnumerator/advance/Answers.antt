@@ -1,5 +1,5 @@
-use Rattle.std.proofs.Common.{◌≡◌, ◌∷◌, take, sym, refl, ap, ◌∙◌, arith}
-use Rattle.rows.specs.Lists.{tuples, ahead_from}
+use Rattle.std.proofs.Common.{take, sym, refl, ap, ◌∙◌, arith}
+use Rattle.rows.specs.Lists.{tuples}
 use Rattle.rows.specs.Calls.{other_rows}
 use Rattle.rows.proofs.Order.{Fitting}
 use Rattle.rows.proofs.Standing.{some_ahead}

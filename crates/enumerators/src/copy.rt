@@ -1,11 +1,11 @@
 // Copying into a lent buffer.
 ghost use Rattle.std.specs.Prelude.{◌≡◌, ℕ, ◌<◌, ◌≤◌, length, take};
-ghost use Rattle.std.specs.List.{AllByRecursion as All};
+ghost use Rattle.std.specs.List.{AllByRecursion};
 ghost use Rattle.rows.specs.Calls.{picked, positions, at_front};
 
 // Writes the pool's elements at the given places to the front of `elements`, whatever kind of element it is.
 pub(crate) fn copy<T: Copy>(pool: &[T], places: &[u16], elements: &mut [T])
-    requires within { All (λ p. p < length pool.now) places.now }
+    requires within { AllByRecursion (λ p. p < length pool.now) places.now }
     requires room { length places.now ≤ length elements.old }
     ensures { elements.new ≡ at_front (picked pool.now places.now) elements.old }
 {
@@ -18,7 +18,7 @@ pub(crate) fn copy<T: Copy>(pool: &[T], places: &[u16], elements: &mut [T])
 pub(crate) fn positions_of(starts: &[u16], row: &[u16]) -> [u16; 64]
     requires starting { length starts.now ≡ 64 }
     requires room { length row.now ≤ 64 }
-    requires small { All (λ p. p < 16384) (positions starts.now row.now) }
+    requires small { AllByRecursion (λ p. p < 16384) (positions starts.now row.now) }
     ensures { take (length row.now) result ≡ positions starts.now row.now }
 {
     let mut lying = [0u16; 64];

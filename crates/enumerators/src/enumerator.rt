@@ -1,5 +1,5 @@
 ghost use Rattle.std.specs.Prelude.{◌≡◌, ℕ, ◌<◌, ◌≤◌, List, [], ◌∷◌, length, MatchOption};
-ghost use Rattle.std.specs.List.{AllByRecursion as All};
+ghost use Rattle.std.specs.List.{AllByRecursion};
 ghost use Rattle.rows.specs.Calls.{earned, earned_number, number_told, allowed, answered, if_given, UnlessGiven, first_row, other_rows, at_front, positions, picked};
 
 use crate::copy::{copy, positions_of};
@@ -98,10 +98,10 @@ pub trait Enumerator {
     }
 
     // each row ahead has that many places
-    ghost uniform: { (s : Self) → All (λ row. length row ≡ width s) (ahead s) };
+    ghost uniform: { (s : Self) → AllByRecursion (λ row. length row ≡ width s) (ahead s) };
 
     // and its elements lie in the pool
-    ghost within: { (s : Self) → All (λ row. All (λ p. p < size s) (positions (starts s) row)) (ahead s) };
+    ghost within: { (s : Self) → AllByRecursion (λ row. AllByRecursion (λ p. p < size s) (positions (starts s) row)) (ahead s) };
 
     // each place of a row has a start
     ghost reaching: { (s : Self) → width s ≤ length (starts s) };

@@ -1,5 +1,5 @@
 ghost use Rattle.std.specs.Prelude.{◌≡◌, ℕ, ◌+◌, ◌-◌, ◌%◌, ◌^◌, ◌<◌, ◌≤◌, true, false, ◌||◌, length, take, slice_index};
-ghost use Rattle.std.specs.List.{AllByRecursion as All};
+ghost use Rattle.std.specs.List.{AllByRecursion};
 ghost use Rattle.rows.specs.Carries.{Carried, Inside, some_empty};
 
 // The places of a product's row: place i runs from 0 to below lengths[i], the last the fastest.
@@ -14,7 +14,7 @@ pub(crate) struct Counter {
 
 // The length of the pool that each place is of, the pools coming again and again.
 fn repeat_lengths(lengths: &[usize], width: usize) -> [u16; 64]
-    requires { (All (λ n. n ≤ 256) lengths.now) × ((width ≤ 64) × ((0 < width → 0 < length lengths.now))) }
+    requires { (AllByRecursion (λ n. n ≤ 256) lengths.now) × ((width ≤ 64) × ((0 < width → 0 < length lengths.now))) }
     ensures { (k : ℕ) → k < width → slice_index result k ≡ slice_index lengths.now (k % length lengths.now) }
 {
     let mut repeated = [0u16; 64];
@@ -27,7 +27,7 @@ fn repeat_lengths(lengths: &[usize], width: usize) -> [u16; 64]
 impl Counter {
     // All places at 0, and `cur` at the last of them; one below zero, by wrapping, where there is none.
     pub(crate) fn new(lengths: &[usize], width: usize) -> Counter
-        requires { (All (λ n. n ≤ 256) lengths.now) × ((width ≤ 64) × ((0 < width → 0 < length lengths.now))) }
+        requires { (AllByRecursion (λ n. n ≤ 256) lengths.now) × ((width ≤ 64) × ((0 < width → 0 < length lengths.now))) }
         ensures sized { result.width ≡ width }
         ensures lengths { (k : ℕ) → k < width → slice_index result.lengths k ≡ slice_index lengths.now (k % length lengths.now) }
         ensures zeros { (k : ℕ) → k < 64 → slice_index result.idxs k ≡ 0 }

@@ -1,5 +1,5 @@
 ghost use Rattle.std.specs.Prelude.{◌≡◌, ℕ, ◌+◌, ◌-◌, ◌*◌, ◌^◌, ◌<◌, ◌≤◌, min, true, false, List, length, take, Some as is_some, None as is_none, sum, MatchResult, slice_index};
-ghost use Rattle.std.specs.List.{AllByRecursion as All};
+ghost use Rattle.std.specs.List.{AllByRecursion};
 ghost use Rattle.steps.specs.Refusals.{refusal_number};
 ghost use Rattle.rows.specs.Calls.{unmakable, unmakable_number};
 ghost use Rattle.rows.specs.Carries.{pool_start, PoolStarts, PoolByPool};
@@ -40,7 +40,7 @@ fn row_length(pools: usize, repeat: u32) -> usize
 
 // How many elements some pools have together.
 fn total(lengths: &[usize]) -> usize
-    requires { (All (λ n. n ≤ 256) lengths.now) × (length lengths.now ≤ 64) }
+    requires { (AllByRecursion (λ n. n ≤ 256) lengths.now) × (length lengths.now ≤ 64) }
     ensures { result ≡ sum lengths.now }
 {
     let mut elements = 0;
@@ -58,7 +58,7 @@ fn zeros() -> [u16; 64]
 
 // Where the pool of each place starts in the list that holds the pools one after another.
 fn starts_of(lengths: &[usize], width: usize) -> [u16; 64]
-    requires { (All (λ n. n ≤ 256) lengths.now) × ((length lengths.now ≤ 64) × ((width ≤ 64) × ((0 < width → 0 < length lengths.now)))) }
+    requires { (AllByRecursion (λ n. n ≤ 256) lengths.now) × ((length lengths.now ≤ 64) × ((width ≤ 64) × ((0 < width → 0 < length lengths.now)))) }
     ensures at { (k : ℕ) → k < width → slice_index result k ≡ pool_start lengths.now k }
     ensures behind { (k : ℕ) → width ≤ k → slice_index result k ≡ 0 }
 {

@@ -2,17 +2,17 @@
 use Rattle.std.proofs.Common.{◌≡◌, ℕ, ◌-◌, ◌<◌, ◌≤◌, Bool, true, false, cond, ◌||◌, eqb, ltb, List, ◌∷◌, take, Some, None, Ok, refl, subst, arith}
 use native.Mathlib.Nat.{sub-zero}
 use borrow.Rule.Slice.PartMut.{mid_of}
-use Rattle.std.specs.List.{AllByRecursion as All}
+use Rattle.std.specs.List.{AllByRecursion}
 use Rattle.std.proofs.ByRecursion.{All-weaker}
 use Rattle.std.proofs.lemmas.Bool.{eqb-true, ltb-false}
 use Rattle.steps.specs.declared.refusal.Refusal.TheVariants.{OtherPool, ShortBuffer}
 use Rattle.rows.specs.Calls.{earned, allowed}
 
 -- what holds of all rows ahead holds of the first
-pub of_first : (P : List ℕ → Type 0) (rows : List (List ℕ)) (row : List ℕ) (rest : List (List ℕ)) → rows ≡ row ∷ rest → All P rows → P row
-of_first P rows row rest e h = (subst (All P) e h).0
+pub of_first : (P : List ℕ → Type 0) (rows : List (List ℕ)) (row : List ℕ) (rest : List (List ℕ)) → rows ≡ row ∷ rest → AllByRecursion P rows → P row
+of_first P rows row rest e h = (subst (AllByRecursion P) e h).0
 
-pub below_larger : (a b : ℕ) (ps : List ℕ) → a ≤ b → All (λ p. p < a) ps → All (λ p. p < b) ps
+pub below_larger : (a b : ℕ) (ps : List ℕ) → a ≤ b → AllByRecursion (λ p. p < a) ps → AllByRecursion (λ p. p < b) ps
 below_larger a b ps l h = All-weaker (λ p. p < a) (λ p. p < b) (λ p q. omega arith) ps h
 
 -- `&xs[0..n]`

@@ -1,6 +1,6 @@
 -- Products: the row after one.
 use Rattle.std.proofs.Common.{◌≡◌, ℕ, zero, suc, ◌+◌, ◌*◌, ◌%◌, ◌<◌, ◌≤◌, Bool, true, false, ◌||◌, eqb, ltb, ◌⊎◌, List, [], ◌∷◌, length, get_or, take, drop, sum, sym, refl, ap, ◌∙◌, subst, inl, inr, ⊎_elim, le_trans, mul-le-mul_right, mod-lt, zero-mul, arith, length-take-le, get_or-take}
-use Rattle.std.specs.List.{AllByRecursion as All}
+use Rattle.std.specs.List.{AllByRecursion}
 use Rattle.std.proofs.lemmas.List.{drop_more, drop_all, ext_get_or}
 use Rattle.std.proofs.ByRecursion.{All-weaker, sum_by_le}
 use Rattle.std.proofs.lemmas.Bool.{or_left, or_parts, or_cases, eq-eqb, ne_eqb, eqb-true, eqb-false, ltb-false, true≢false}
@@ -128,7 +128,7 @@ carried_rows w w' lens lens' xs ys stop false cur cur' a b c ew el go law last u
     ∙ ap (λ z. other_rows (ahead_from z (take w xs) (tuples (take w lens)))) (sym go)
 
 pub within_positions : (size : ℕ) (starts row lens : List ℕ) → ((k : ℕ) → k < length row → get_or starts k 0 + get_or lens k 0 ≤ size)
-    → ((k : ℕ) → k < length row → get_or row k 0 < get_or lens k 0) → All (λ p. p < size) (positions starts row)
+    → ((k : ℕ) → k < length row → get_or row k 0 < get_or lens k 0) → AllByRecursion (λ p. p < size) (positions starts row)
 within_positions size [] row lens h g = tt
 within_positions size (s ∷ ss) [] lens h g = tt
 within_positions size (s ∷ ss) (p ∷ ps) [] h g = absurd (omega (arith, g 0 (omega arith)))
@@ -136,10 +136,10 @@ within_positions size (s ∷ ss) (p ∷ ps) (n ∷ ns) h g =
     (omega (arith, h 0 (omega arith), g 0 (omega arith)), within_positions size ss ps ns (λ k l. h (suc k) (omega arith)) (λ k l. g (suc k) (omega arith)))
 
 pub tuples_within : (size w : ℕ) (starts lens xs : List ℕ) → w ≤ length lens → ((k : ℕ) → k < w → get_or starts k 0 + get_or lens k 0 ≤ size) → (stop : Bool) (row : List ℕ)
-    → All (λ y. All (λ p. p < size) (positions starts y)) (ahead_from stop row (tuples (take w lens)))
+    → AllByRecursion (λ y. AllByRecursion (λ p. p < size) (positions starts y)) (ahead_from stop row (tuples (take w lens)))
 tuples_within size w starts lens xs a h stop row =
-    ahead_all (λ y. All (λ p. p < size) (positions starts y)) stop row (tuples (take w lens))
-    (All-weaker (Fitting (take w lens)) (λ y. All (λ p. p < size) (positions starts y))
+    ahead_all (λ y. AllByRecursion (λ p. p < size) (positions starts y)) stop row (tuples (take w lens))
+    (All-weaker (Fitting (take w lens)) (λ y. AllByRecursion (λ p. p < size) (positions starts y))
     (λ y f.
     let len : length y ≡ w = fits_length (take w lens) y f ∙ length-take-le w lens a in
     within_positions size starts y lens (λ k l. h k (omega arith))
@@ -148,11 +148,11 @@ tuples_within size w starts lens xs a h stop row =
 
 -- ---- the making
 
-pub all_short : (limit : ℕ) (xs : List ℕ) → some_above limit xs ≡ false → All (λ n. n ≤ limit) xs
+pub all_short : (limit : ℕ) (xs : List ℕ) → some_above limit xs ≡ false → AllByRecursion (λ n. n ≤ limit) xs
 all_short limit [] h = tt
 all_short limit (x ∷ xs) h = let p = or_parts (ltb limit x) (some_above limit xs) h in (ltb-false limit x p.0, all_short limit xs p.1)
 
-pub sum_small : (limit count : ℕ) (xs : List ℕ) → All (λ n. n ≤ limit) xs → length xs ≤ count → sum xs ≤ count * limit
+pub sum_small : (limit count : ℕ) (xs : List ℕ) → AllByRecursion (λ n. n ≤ limit) xs → length xs ≤ count → sum xs ≤ count * limit
 sum_small limit count xs h l = le_trans (sum_by_le (λ x. x) limit xs h) (mul-le-mul_right limit l)
 
 pub start_fits : (lengths : List ℕ) (k : ℕ) → 0 < length lengths → pool_start lengths k + get_or lengths (k % length lengths) 0 ≤ sum lengths

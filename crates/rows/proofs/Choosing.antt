@@ -1,6 +1,6 @@
 -- Numbers below n that all differ are at most n: so there is no permutation of more places than elements.
 use Rattle.std.proofs.Common.{◌≡◌, ℕ, zero, suc, ◌+◌, ◌<◌, ◌≤◌, true, false, not, eqb, List, [], ◌∷◌, length, filter, sym, refl, ap, ◌∙◌, subst, ⊎_elim, arith}
-use Rattle.std.specs.List.{AllByRecursion as All}
+use Rattle.std.specs.List.{AllByRecursion}
 use Rattle.std.proofs.ByRecursion.{All-weaker, All-from_get_or}
 use Rattle.std.proofs.lemmas.Bool.{cases_Bool, and_parts, and_from, not-true, or_cases, or_left, or_right, eqb-true, eqb-false, eq-eqb, ne_eqb, cond-true, cond-false, both_ways, cases_order}
 use Rattle.rows.specs.Lawful.{PermutationRow}
@@ -59,19 +59,19 @@ one_lost v (x ∷ xs) h =
     omega (arith, ap length stays, one_lost v xs parts.1))
     (cases_Bool (eqb x v))
 
-smaller : (m : ℕ) (xs : List ℕ) → All (λ x. x < suc m) xs → All (λ x. x < m) (without m xs)
+smaller : (m : ℕ) (xs : List ℕ) → AllByRecursion (λ x. x < suc m) xs → AllByRecursion (λ x. x < m) (without m xs)
 unfolding without
 smaller m [] h = tt
 smaller m (x ∷ xs) h = ⊎_elim
-    (λ e. subst (All (λ x. x < m)) (sym (cond-false (not (eqb x m)) (x ∷ without m xs) (without m xs) (ap not e))) (smaller m xs h.1))
-    (λ e. subst (All (λ x. x < m)) (sym (cond-true (not (eqb x m)) (x ∷ without m xs) (without m xs) (ap not e)))
+    (λ e. subst (AllByRecursion (λ x. x < m)) (sym (cond-false (not (eqb x m)) (x ∷ without m xs) (without m xs) (ap not e))) (smaller m xs h.1))
+    (λ e. subst (AllByRecursion (λ x. x < m)) (sym (cond-true (not (eqb x m)) (x ∷ without m xs) (without m xs) (ap not e)))
     (below h.0 (eqb-false x m e), smaller m xs h.1))
     (cases_Bool (eqb x m))
   where
     below : {x : ℕ} → x < suc m → (x ≡ m → ⊥) → x < m
     below {x} l ne = ⊎_elim (λ e. absurd (ne e)) (λ o. ⊎_elim (λ a. a) (λ b. absurd (omega arith)) o) (cases_order x m)
 
-pub at_most : (n : ℕ) (xs : List ℕ) → differing xs ≡ true → All (λ x. x < n) xs → length xs ≤ n
+pub at_most : (n : ℕ) (xs : List ℕ) → differing xs ≡ true → AllByRecursion (λ x. x < n) xs → length xs ≤ n
 at_most zero [] d h = omega arith
 at_most zero (x ∷ xs) d h = absurd (omega (arith, h.0))
 at_most (suc m) xs d h = omega (arith, one_lost m xs d, at_most m (without m xs) (differing_without m xs d) (smaller m xs h))

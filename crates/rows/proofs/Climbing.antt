@@ -1,7 +1,7 @@
 -- Combinations, with and without replacement: rows whose place k is at least as far above place i as `lift` says,
 -- which is k for combinations and 0 with replacement.
 use Rattle.std.proofs.Common.{◌≡◌, ℕ, zero, suc, ◌+◌, ◌-◌, ◌<◌, ◌≤◌, true, false, ◌&&◌, eqb, ltb, List, [], ◌∷◌, length, get_or, take, sym, refl, ap, subst, ⊎_elim, arith, length-take-le, get_or-take}
-use Rattle.std.specs.List.{AllByRecursion as All}
+use Rattle.std.specs.List.{AllByRecursion}
 use Rattle.std.proofs.ByRecursion.{All-weaker}
 use Rattle.std.proofs.lemmas.Bool.{cases_lt, cases_order, and_parts, and_cases, eqb-true, eqb-false, ltb-true, ltb-false}
 use Rattle.rows.specs.Lawful.{CombinationRow, ReplacementRow}
@@ -11,7 +11,7 @@ use Rattle.rows.specs.Successor.{Next, Last, First}
 use Rattle.rows.proofs.Families.{combinations_listed, replacements_listed}
 use Rattle.rows.proofs.Places.{rising_at, rising_from, unfalling_at, unfalling_from}
 
-pub nothing : (rows : List (List ℕ)) → All (λ y. ⊥) rows → rows ≡ []
+pub nothing : (rows : List (List ℕ)) → AllByRecursion (λ y. ⊥) rows → rows ≡ []
 nothing [] h = refl
 nothing (x ∷ xs) h = absurd h.0
 

@@ -1,6 +1,6 @@
 -- Rows in ascending order, and what is left of them from a row on. Assumes nothing.
 use Rattle.std.proofs.Common.{◌≡◌, ℕ, zero, suc, ◌+◌, ◌<◌, ◌≤◌, Bool, true, false, cond, not, ◌&&◌, eqb, ltb, ◌⊎◌, List, [], ◌∷◌, ◌++◌, map, filter, sym, refl, ap, ◌∙◌, subst, inl, inr, ⊎_elim, arith}
-use Rattle.std.specs.List.{AllByRecursion as All}
+use Rattle.std.specs.List.{AllByRecursion}
 use Rattle.std.proofs.ByRecursion.{All-append, all_kept_by, All-weaker, All-map}
 use Rattle.std.proofs.lemmas.Bool.{ltb-true, lt-ltb, le-ltb, eqb-true, eq-eqb, and_parts, and_from, or_cases, or_left, or_right, cond-true, cond-false, cases_Bool, cases_order, true≢false}
 use Rattle.rows.specs.Lists.{headed, tuples, less, from}
@@ -11,7 +11,7 @@ xs ≺ ys = less xs ys ≡ true
 
 abbrev pub Asc : List (List ℕ) → Type 0
 Asc [] = Unit {0}
-Asc (x ∷ xs) = All (λ y. x ≺ y) xs × Asc xs
+Asc (x ∷ xs) = AllByRecursion (λ y. x ≺ y) xs × Asc xs
 
 abbrev pub In : List ℕ → List (List ℕ) → Type 0
 In x [] = ⊥
@@ -51,7 +51,7 @@ less_trans (x ∷ xs) (y ∷ ys) (z ∷ zs) p q =
 
 -- ---- what is left from a row on
 
-pub keeps_all : (p : List ℕ → Bool) (rows : List (List ℕ)) → All (λ y. p y ≡ true) rows → filter p rows ≡ rows
+pub keeps_all : (p : List ℕ → Bool) (rows : List (List ℕ)) → AllByRecursion (λ y. p y ≡ true) rows → filter p rows ≡ rows
 keeps_all p [] h = refl
 keeps_all p (x ∷ xs) h = rw h.0 (ap (λ zs. x ∷ zs) (keeps_all p xs h.1))
 
@@ -59,11 +59,11 @@ pub not_before : (x y : List ℕ) → x ≺ y → not (less y x) ≡ true
 not_before x y h =
     ⊎_elim (λ e. absurd (true≢false (sym (less_trans x y x h e) ∙ less_irrefl x))) (λ e. ap not e) (cases_Bool (less y x))
 
-pub all_in : (P : List ℕ → Type 0) (xs : List (List ℕ)) (x : List ℕ) → All P xs → In x xs → P x
+pub all_in : (P : List ℕ → Type 0) (xs : List (List ℕ)) (x : List ℕ) → AllByRecursion P xs → In x xs → P x
 all_in P [] x h i = absurd i
 all_in P (y ∷ ys) x h i = ⊎_elim (λ e. subst P (sym e) h.0) (λ l. all_in P ys x h.1 l) i
 
-pub all_both : (P Q R : List ℕ → Type 0) → ((x : List ℕ) → P x → Q x → R x) → (xs : List (List ℕ)) → All P xs → All Q xs → All R xs
+pub all_both : (P Q R : List ℕ → Type 0) → ((x : List ℕ) → P x → Q x → R x) → (xs : List (List ℕ)) → AllByRecursion P xs → AllByRecursion Q xs → AllByRecursion R xs
 all_both P Q R f [] p q = tt
 all_both P Q R f (x ∷ xs) p q = (f x p.0 q.0, all_both P Q R f xs p.1 q.1)
 
@@ -78,7 +78,7 @@ keeps row other = not (less other row)
 
 -- a row, and one after it before which nothing comes
 pub from_step : (rows : List (List ℕ)) (row next : List ℕ) → Asc rows → In row rows → row ≺ next
-    → All (λ y. row ≺ y → less y next ≡ false) rows → from row rows ≡ row ∷ from next rows
+    → AllByRecursion (λ y. row ≺ y → less y next ≡ false) rows → from row rows ≡ row ∷ from next rows
 unfolding from
 from_step [] row next asc i lt least = absurd i
 from_step (x ∷ xs) row next asc i lt least = ⊎_elim
@@ -114,7 +114,7 @@ from_head (x ∷ xs) row asc i = ⊎_elim
 
 -- a row after which none comes
 pub from_last : (rows : List (List ℕ)) (row : List ℕ) → Asc rows → In row rows
-    → All (λ y. row ≺ y → ⊥) rows → from row rows ≡ row ∷ []
+    → AllByRecursion (λ y. row ≺ y → ⊥) rows → from row rows ≡ row ∷ []
 unfolding from
 from_last [] row asc i none = absurd i
 from_last (x ∷ xs) row asc i none = ⊎_elim
@@ -127,18 +127,18 @@ from_last (x ∷ xs) row asc i none = ⊎_elim
     kept_past (keeps row) x xs (ap not xr) ∙ from_last xs row asc.1 later none.1)
     i
   where
-    none_left : (xs : List (List ℕ)) → All (λ y. ⊥) xs → xs ≡ []
+    none_left : (xs : List (List ℕ)) → AllByRecursion (λ y. ⊥) xs → xs ≡ []
     none_left [] h = refl
     none_left (x ∷ xs) h = absurd h.0
 
 -- a row before which none comes
-pub from_first : (rows : List (List ℕ)) (row : List ℕ) → All (λ y. less y row ≡ false) rows → from row rows ≡ rows
+pub from_first : (rows : List (List ℕ)) (row : List ℕ) → AllByRecursion (λ y. less y row ≡ false) rows → from row rows ≡ rows
 unfolding from
 from_first rows row h = keeps_all (keeps row) rows (All-weaker (λ y. less y row ≡ false) (λ y. keeps row y ≡ true) (λ y e. ap not e) rows h)
 
 -- ---- the tuples
 
-pub asc_append : (xs ys : List (List ℕ)) → Asc xs → Asc ys → All (λ x. All (λ y. x ≺ y) ys) xs → Asc (xs ++ ys)
+pub asc_append : (xs ys : List (List ℕ)) → Asc xs → Asc ys → AllByRecursion (λ x. AllByRecursion (λ y. x ≺ y) ys) xs → Asc (xs ++ ys)
 asc_append [] ys a b c = b
 asc_append (x ∷ xs) ys a b c = (All-append (λ y. x ≺ y) xs ys a.0 c.0, asc_append xs ys a.1 b c.1)
 
@@ -166,11 +166,11 @@ starts_down : (n m : ℕ) (xs : List ℕ) → n ≤ m → Starts m xs → Starts
 starts_down n m [] l h = h
 starts_down n m (x ∷ xs) l h = omega arith
 
-all_any : (P : List ℕ → Type 0) → ((x : List ℕ) → P x) → (xs : List (List ℕ)) → All P xs
+all_any : (P : List ℕ → Type 0) → ((x : List ℕ) → P x) → (xs : List (List ℕ)) → AllByRecursion P xs
 all_any P f [] = tt
 all_any P f (x ∷ xs) = (f x, all_any P f xs)
 
-headed_start : (n count : ℕ) (tails : List (List ℕ)) → All (Starts n) (headed n count tails)
+headed_start : (n count : ℕ) (tails : List (List ℕ)) → AllByRecursion (Starts n) (headed n count tails)
 unfolding headed
 headed_start n zero tails = tt
 headed_start n (suc count) tails =
@@ -183,8 +183,8 @@ unfolding headed
 asc_headed n zero tails a = tt
 asc_headed n (suc count) tails a =
     asc_append (map (λ row. n ∷ row) tails) (headed (suc n) count tails) (asc_cons n tails a) (asc_headed (suc n) count tails a)
-    (All-map (λ x. All (λ y. x ≺ y) (headed (suc n) count tails)) (λ row. n ∷ row) tails
-    (all_any (λ row. All (λ y. (n ∷ row) ≺ y) (headed (suc n) count tails))
+    (All-map (λ x. AllByRecursion (λ y. x ≺ y) (headed (suc n) count tails)) (λ row. n ∷ row) tails
+    (all_any (λ row. AllByRecursion (λ y. (n ∷ row) ≺ y) (headed (suc n) count tails))
     (λ row. All-weaker (Starts (suc n)) (λ y. (n ∷ row) ≺ y) (λ y h. starts_less n (suc n) row y (omega arith) h) (headed (suc n) count tails) (headed_start (suc n) count tails)) tails))
 
 pub asc_tuples : (ns : List ℕ) → Asc (tuples ns)
@@ -199,7 +199,7 @@ Fitting [] (x ∷ xs) = ⊥
 Fitting (n ∷ ns) [] = ⊥
 Fitting (n ∷ ns) (x ∷ xs) = (x < n) × Fitting ns xs
 
-headed_fit : (n count m : ℕ) (ns : List ℕ) (tails : List (List ℕ)) → n + count ≡ m → All (Fitting ns) tails → All (Fitting (m ∷ ns)) (headed n count tails)
+headed_fit : (n count m : ℕ) (ns : List ℕ) (tails : List (List ℕ)) → n + count ≡ m → AllByRecursion (Fitting ns) tails → AllByRecursion (Fitting (m ∷ ns)) (headed n count tails)
 unfolding headed
 headed_fit n zero m ns tails e h = tt
 headed_fit n (suc count) m ns tails e h =
@@ -207,7 +207,7 @@ headed_fit n (suc count) m ns tails e h =
     (All-map (Fitting (m ∷ ns)) (λ row. n ∷ row) tails (All-weaker (Fitting ns) (λ row. Fitting (m ∷ ns) (n ∷ row)) (λ row f. (omega arith, f)) tails h))
     (headed_fit (suc n) count m ns tails (omega arith) h)
 
-pub tuples_fit : (ns : List ℕ) → All (Fitting ns) (tuples ns)
+pub tuples_fit : (ns : List ℕ) → AllByRecursion (Fitting ns) (tuples ns)
 unfolding tuples
 tuples_fit [] = (tt, tt)
 tuples_fit (n ∷ ns) = headed_fit 0 n n ns (tuples ns) (omega arith) (tuples_fit ns)

@@ -1,6 +1,6 @@
 -- An enumerator that stands at a row, in the first r places of a list: what is ahead of it, and what a step leaves.
 use Rattle.std.proofs.Common.{◌≡◌, ℕ, zero, suc, ◌<◌, ◌≤◌, Bool, true, false, not, List, [], ◌∷◌, length, get_or, take, replicate, sym, refl, ap, ◌∙◌, subst, zero-add, arith}
-use Rattle.std.specs.List.{AllByRecursion as All}
+use Rattle.std.specs.List.{AllByRecursion}
 use Rattle.std.proofs.lemmas.List.{length-replicate}
 use Rattle.std.proofs.ByRecursion.{All-weaker, all_kept_by, All-from_get_or}
 use Rattle.rows.specs.Lawful.{AllAhead, AllInOrder}
@@ -10,7 +10,7 @@ use Rattle.rows.specs.Successor.{Next, Last, First}
 use Rattle.rows.proofs.Successor.{Listed, standing, moving, ending, beginning}
 use Rattle.rows.proofs.Families.{in_order}
 
-pub ahead_all : (P : List ℕ → Type 0) (stop : Bool) (row : List ℕ) (rows : List (List ℕ)) → All P rows → All P (ahead_from stop row rows)
+pub ahead_all : (P : List ℕ → Type 0) (stop : Bool) (row : List ℕ) (rows : List (List ℕ)) → AllByRecursion P rows → AllByRecursion P (ahead_from stop row rows)
 unfolding from
 ahead_all P true row rows h = tt
 ahead_all P false row rows h = all_kept_by (λ other. not (less other row)) P rows h
@@ -30,16 +30,16 @@ one_start_long limit r l = omega (arith, length-replicate {A = ℕ} limit 0)
 module _ (Law : List ℕ → Type 0) (r : ℕ) (rows : List (List ℕ)) (listed : Listed Law r rows) where
   -- ---- laws of any enumerator of these rows
 
-  pub uniform : (stop : Bool) (row : List ℕ) → All (λ y. length y ≡ r) (ahead_from stop row rows)
+  pub uniform : (stop : Bool) (row : List ℕ) → AllByRecursion (λ y. length y ≡ r) (ahead_from stop row rows)
   uniform stop row = ahead_all (λ y. length y ≡ r) stop row rows (All-weaker Law (λ y. length y ≡ r) listed.sized rows listed.laws)
 
   pub within_one : (limit n : ℕ) → r ≤ limit → ((y : List ℕ) → Law y → (k : ℕ) → k < r → get_or y k 0 < n) → (stop : Bool) (row : List ℕ)
-      → All (λ y. All (λ p. p < n) (positions (one_start limit) y)) (ahead_from stop row rows)
-  within_one limit n l below stop row = ahead_all (λ y. All (λ p. p < n) (positions (one_start limit) y)) stop row rows
-      (All-weaker Law (λ y. All (λ p. p < n) (positions (one_start limit) y))
+      → AllByRecursion (λ y. AllByRecursion (λ p. p < n) (positions (one_start limit) y)) (ahead_from stop row rows)
+  within_one limit n l below stop row = ahead_all (λ y. AllByRecursion (λ p. p < n) (positions (one_start limit) y)) stop row rows
+      (All-weaker Law (λ y. AllByRecursion (λ p. p < n) (positions (one_start limit) y))
       (λ y law.
       let long : length y ≡ r = listed.sized y law in
-      subst (All (λ p. p < n)) (sym (positions_one limit y (omega arith))) (All-from_get_or (λ p. p < n) y 0 (λ k k<. below y law k (omega arith))))
+      subst (AllByRecursion (λ p. p < n)) (sym (positions_one limit y (omega arith))) (All-from_get_or (λ p. p < n) y 0 (λ k k<. below y law k (omega arith))))
       rows listed.laws)
 
   -- ---- a step, where the enumerator has not stopped

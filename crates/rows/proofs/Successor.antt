@@ -1,6 +1,6 @@
 -- The rows from one on, by the row that comes next, for any law.
 use Rattle.std.proofs.Common.{◌≡◌, ℕ, ◌<◌, ◌≤◌, false, List, [], ◌∷◌, length, get_or, take, sym, ap, ◌∙◌, subst, ⊎_elim, arith, length-take-le, get_or-take}
-use Rattle.std.specs.List.{AllByRecursion as All}
+use Rattle.std.specs.List.{AllByRecursion}
 use Rattle.std.proofs.ByRecursion.{All-weaker}
 use Rattle.std.proofs.lemmas.Bool.{cases_Bool, cases_order, cases_lt}
 use Rattle.rows.specs.Lawful.{Before}
@@ -14,7 +14,7 @@ use Rattle.rows.proofs.Places.{before_from_less, less_from_before}
 pub record Listed (Law : List ℕ → Type 0) (r : ℕ) (rows : List (List ℕ)) : Type 0 where
   pub sized : (y : List ℕ) → Law y → length y ≡ r
   pub asc : Asc rows
-  pub laws : All Law rows
+  pub laws : AllByRecursion Law rows
   pub every : (y : List ℕ) → Law y → In y rows
 
 module _ (Law : List ℕ → Type 0) (r : ℕ) (rows : List (List ℕ)) (listed : Listed Law r rows) where

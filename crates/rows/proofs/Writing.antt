@@ -1,7 +1,7 @@
 -- What is written at the front of a lent buffer: the places of a row, and the elements that lie there.
 use Rattle.std.proofs.Common.{◌≡◌, ℕ, zero, suc, ◌+◌, ◌<◌, ◌≤◌, ◌≢◌, List, [], ◌∷◌, ◌++◌, length, get_or, take, drop, set, replicate, sym, refl, ap, ◌∙◌, subst, ⊎_elim, append_assoc, arith, length-append, length-drop, length-take, length-take-le, drop-cons, get_or-take}
 use lib.Seq.{set_at, take-length}
-use Rattle.std.specs.List.{AllByRecursion as All}
+use Rattle.std.specs.List.{AllByRecursion}
 use Rattle.std.proofs.lemmas.List.{take_more, drop_more, append-nil, ext_get_or, get_or-set_same, get_or-set_other}
 use Rattle.std.proofs.ByRecursion.{All-get_or, All-take}
 use Rattle.std.proofs.lemmas.Bool.{cases_lt}
@@ -11,7 +11,7 @@ picked_append : {T : Type 0} (pool : List T) (ps qs : List ℕ) → picked pool 
 picked_append pool [] qs = refl
 picked_append pool (p ∷ ps) qs = ap (λ zs. one_at pool p ++ zs) (picked_append pool ps qs) ∙ sym (append_assoc (one_at pool p) (picked pool ps) (picked pool qs))
 
-pub length_picked : {T : Type 0} (pool : List T) (ps : List ℕ) → All (λ p. p < length pool) ps → length (picked pool ps) ≡ length ps
+pub length_picked : {T : Type 0} (pool : List T) (ps : List ℕ) → AllByRecursion (λ p. p < length pool) ps → length (picked pool ps) ≡ length ps
 length_picked pool [] h = refl
 length_picked pool (p ∷ ps) h =
     let one : length (one_at pool p) ≡ 1 = simp (length-take, length-drop) (omega (arith, h.0)) in
@@ -19,7 +19,7 @@ length_picked pool (p ∷ ps) h =
 
 -- one more element written
 pub copied_more : {T : Type 0} (pool es ws : List T) (ps : List ℕ) (i : ℕ) (x : T)
-    → i < length ps → length ps ≤ length es → All (λ p. p < length pool) ps
+    → i < length ps → length ps ≤ length es → AllByRecursion (λ p. p < length pool) ps
     → x ≡ get_or pool (get_or ps i 0) x
     → ws ≡ picked pool (take i ps) ++ drop i es
     → set ws i x ≡ picked pool (take (i + 1) ps) ++ drop (i + 1) es
@@ -35,7 +35,7 @@ copied_more {T} pool es ws ps i x l room within read e =
     ap (picked pool) (take_more ps i 0 l) ∙ picked_append pool (take i ps) (get_or ps i 0 ∷ []) ∙ ap (λ zs. front ++ zs) (append-nil (one_at pool (get_or ps i 0)) ∙ one) in
     left ∙ sym (ap (λ zs. zs ++ drop (i + 1) es) right ∙ append_assoc front (x ∷ []) (drop (i + 1) es))
 
-pub copied_all : {T : Type 0} (pool es ws : List T) (ps : List ℕ) (i : ℕ) → length ps ≤ i → i ≤ length ps → All (λ p. p < length pool) ps
+pub copied_all : {T : Type 0} (pool es ws : List T) (ps : List ℕ) (i : ℕ) → length ps ≤ i → i ≤ length ps → AllByRecursion (λ p. p < length pool) ps
     → ws ≡ picked pool (take i ps) ++ drop i es → ws ≡ at_front (picked pool ps) es
 copied_all pool es ws ps i a b within e =
     let end : i ≡ length ps = omega arith in
@@ -56,7 +56,7 @@ get_or_positions (s ∷ ss) [] k a b = absurd (omega arith)
 get_or_positions (s ∷ ss) (p ∷ ps) zero a b = refl
 get_or_positions (s ∷ ss) (p ∷ ps) (suc k) a b = get_or_positions ss ps k (omega arith) (omega arith)
 
-pub position_below : (limit : ℕ) (starts row : List ℕ) (k : ℕ) → k < length row → length row ≤ length starts → All (λ p. p < limit) (positions starts row) → get_or starts k 0 + get_or row k 0 < limit
+pub position_below : (limit : ℕ) (starts row : List ℕ) (k : ℕ) → k < length row → length row ≤ length starts → AllByRecursion (λ p. p < limit) (positions starts row) → get_or starts k 0 + get_or row k 0 < limit
 position_below limit starts row k a b h =
     subst (λ z. z < limit) (get_or_positions starts row k a b) (All-get_or (λ p. p < limit) (positions starts row) k 0 (omega (arith, length_positions starts row b)) h)
 

@@ -1,5 +1,5 @@
 use Rattle.std.proofs.Common.{◌%◌, ◌≤◌, ◌≢◌, length, sum, sym, ap, ◌∙◌, subst, arith, length-set, rules}
-use Rattle.std.specs.List.{AllByRecursion as All}
+use Rattle.std.specs.List.{AllByRecursion}
 use Rattle.std.proofs.lemmas.List.{get_or-set_other}
 use Rattle.std.proofs.ByRecursion.{All-take}
 use Rattle.std.proofs.lemmas.List.Sums.{sum_by-take-le}
@@ -13,7 +13,7 @@ pub total-requires : goal.total-requires
 total-requires c =
     let xs = c.args.lengths.now in
     let m = c.loop-i.i % length xs in
-    (subst (All (λ n. n ≤ 256)) (sym (part_front m xs)) (All-take (λ n. n ≤ 256) m xs c.requires.0), search rules)
+    (subst (AllByRecursion (λ n. n ≤ 256)) (sym (part_front m xs)) (All-take (λ n. n ≤ 256) m xs c.requires.0), search rules)
 
 pub overflow_cast-starts : goal.overflow_cast-starts
 overflow_cast-starts c =

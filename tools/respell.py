@@ -4,8 +4,8 @@
 usage: python3 tools/respell.py        at the top of the repository, once, behind Rattle's own porting script
 
 Words are in snake case (`first-row` becomes `first_row`), and facts, which are definitions that give a type, in camel
-case (`hex-digit` becomes `HexDigit`). A fact that a file of src/ had brought in under a lower-case name is called by its
-own name there. Functions, strings and what programs read and write stay as they are. Where two names would fall
+case (`hex-digit` becomes `HexDigit`). A fact or a variant that a file of src/ had brought in under a lower-case name is
+called by its own name there. Functions, strings and what programs read and write stay as they are. Where two names would fall
 together the script stops and writes nothing.
 """
 
@@ -21,7 +21,7 @@ PARAMETERS = {"most-elements", "most-places"}
 # functions of src/ have these names, in folders of proofs; the lemmas are of other modules
 APART = {"every-history", "pool-by-pool"}
 # what src/ goes on calling by another name, since its own name means a type or a variant there
-ALIASED = {"Item", "Fault", "Step", "Result", "Err", "Ok", "None", "Some", "First", "AllByRecursion"}
+ALIASED = {"Item", "Fault", "Step", "Result", "First"}
 DEFINED = re.compile(r"^(?:(?:pub|abbrev|unfoldable|data|record|ruleset) )*([^\s:(){}=]+) :(?: |$)", re.M)
 CLAUSED = re.compile(r"^([^\s:(){}=]+)(?: [^=\n]*)? =", re.M)
 FIELD = re.compile(r"(?:^  (?:pub )?|[{;] ?|^ +)([a-z][\w']*(?:-[\w']+)+) (?::|=)(?= |$)", re.M)
@@ -46,7 +46,8 @@ def read(top, pattern):
 
 
 def answers(path):
-    return path.name in ("Answers.antt", "Invariants.antt", "Proof.antt")
+    """Whether the file answers the goals of a function: their names are the toolkit's, not ours."""
+    return path.name in ("Answers.antt", "Invariants.antt", "Proof.antt") and path.parent.name != "proofs"
 
 
 def names_of(logic):
@@ -74,6 +75,8 @@ def ghost_text(text, change):
             continue
         end = text.index("{", m.end())
         deep = 0
+        if ";" in text[m.end() : end]:
+            continue
         while True:
             deep += (text[end] == "{") - (text[end] == "}")
             end += 1

@@ -1,4 +1,4 @@
-ghost use Rattle.std.specs.Prelude.{◌≡◌, None as no_total};
+ghost use Rattle.std.specs.Prelude.{◌≡◌};
 ghost use Rattle.steps.specs.Steps.{first as first_answer, rest as rest_of};
 ghost use Rattle.laws.specs.Accumulate.{from_initial, accumulates, accumulate_left, total_after, RunningTotals};
 
@@ -20,7 +20,7 @@ where
     pub fn new(source: S, joining: J, initial: Option<S::Item>) -> Self
         ensures ahead { accumulates (J.Joining.joins result.joining) result.initial result.total (S.Source.ahead result.source) ≡ from_initial (J.Joining.joins joining) initial (S.Source.ahead source) }
         ensures law { RunningTotals (J.Joining.joins joining) initial (S.Source.ahead source) (accumulates (J.Joining.joins result.joining) result.initial result.total (S.Source.ahead result.source)) }
-        ensures holds { (result.source ≡ source) × (result.joining ≡ joining) × (result.initial ≡ initial) × (result.total ≡ no_total) }
+        ensures holds { (result.source ≡ source) × (result.joining ≡ joining) × (result.initial ≡ initial) × (result.total ≡ None) }
     {
         Accumulate {
             source,

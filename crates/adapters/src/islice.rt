@@ -1,4 +1,4 @@
-ghost use Rattle.std.specs.Prelude.{◌≡◌, [], None as none, MatchResult};
+ghost use Rattle.std.specs.Prelude.{◌≡◌, [], MatchResult};
 ghost use Rattle.steps.specs.Steps.{first as first_answer, rest as rest_of};
 ghost use Rattle.steps.specs.Refusals.{refusal_number};
 ghost use Rattle.laws.specs.Items.{first_fault};
@@ -95,7 +95,7 @@ impl<S: Source> Islice<S> {
     pub fn new(source: S, arguments: &[Option<u64>]) -> Result<Self, (Refusal, S)>
         ensures { MatchResult result
             (λ s. (s.source ≡ source) × SliceMade arguments.now (S.Source.ahead source) s.cur s.next s.stop s.step)
-            (λ e. (bounds arguments.now ≡ none) × (refusal_number e.0 ≡ 5) × (e.1 ≡ source)) }
+            (λ e. (bounds arguments.now ≡ None) × (refusal_number e.0 ≡ 5) × (e.1 ≡ source)) }
     {
         let Some(window) = read_window(arguments) else {
             return Err((Refusal::SliceArguments, source));
@@ -182,7 +182,7 @@ where
     S::Item: Drop,
     ensures { MatchResult result
         (λ p. Consumed arguments.now (S.Source.ahead source) (S.Source.ahead p.0) p.1)
-        (λ e. (bounds arguments.now ≡ none) × (refusal_number e.0 ≡ 5) × (e.1 ≡ source)) }
+        (λ e. (bounds arguments.now ≡ None) × (refusal_number e.0 ≡ 5) × (e.1 ≡ source)) }
 {
     let mut slice = Islice::new(source, arguments)?;
     let met = slice.finish();

@@ -1,4 +1,4 @@
-ghost use Rattle.std.specs.Prelude.{◌≡◌, None as no_item};
+ghost use Rattle.std.specs.Prelude.{◌≡◌};
 ghost use Rattle.steps.specs.Steps.{first as first_answer, rest as rest_of};
 ghost use Rattle.laws.specs.Pairwise.{paired, next_old, unpaired, pairs, pairs_left, pairs_old, Neighbours};
 
@@ -15,14 +15,14 @@ impl<S: Source> Pairwise<S> {
     pub fn new(source: S) -> Self
         ensures ahead { pairs result.old (S.Source.ahead result.source) ≡ unpaired (S.Source.ahead source) }
         ensures law { Neighbours (S.Source.ahead source) (pairs result.old (S.Source.ahead result.source)) }
-        ensures holds { (result.source ≡ source) × (result.old ≡ no_item) }
+        ensures holds { (result.source ≡ source) × (result.old ≡ None) }
     {
         Self::fresh(source)
     }
 
     // One that was not stepped yet.
     fn fresh(source: S) -> Self
-        ensures holds { (result.source ≡ source) × (result.old ≡ no_item) }
+        ensures holds { (result.source ≡ source) × (result.old ≡ None) }
     {
         Pairwise { source, old: None }
     }

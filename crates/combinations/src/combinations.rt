@@ -1,4 +1,4 @@
-ghost use Rattle.std.specs.Prelude.{◌≡◌, ℕ, ◌+◌, ◌-◌, ◌<◌, ◌≤◌, true, false, List, [], ◌∷◌, length, take, Some as is_some, None as is_none, MatchResult, ◌≢◌, nat_lt, slice_index, slice_set};
+ghost use Rattle.std.specs.Prelude.{◌≡◌, ℕ, ◌+◌, ◌-◌, ◌<◌, ◌≤◌, true, false, List, [], ◌∷◌, length, take, MatchResult, ◌≢◌, nat_lt, slice_index, slice_set};
 ghost use Rattle.steps.specs.Refusals.{refusal_number};
 ghost use Rattle.rows.specs.Calls.{unmakable, unmakable_number, one_start};
 ghost use Rattle.rows.specs.Runs.{LifeLaw};
@@ -86,9 +86,9 @@ impl Combinations {
     // The combinations of `r` from a pool of `n` elements.
     pub fn new(n: usize, r: usize) -> Result<Combinations, Refusal>
         ensures { MatchResult result
-            (λ e. (unmakable 256 64 (n ∷ []) r ≡ is_none) × (e.n ≡ n) × (e.r ≡ r)
+            (λ e. (unmakable 256 64 (n ∷ []) r ≡ None) × (e.n ≡ n) × (e.r ≡ r)
             × AllAhead (CombinationRow n r) (combination_rows n r) (ahead_from e.exhausted (take e.r e.indices) (combination_rows e.n e.r)))
-            (λ refusal. (unmakable 256 64 (n ∷ []) r ≡ is_some refusal) × (unmakable_number 256 64 (n ∷ []) r ≡ is_some (refusal_number refusal))) }
+            (λ refusal. (unmakable 256 64 (n ∷ []) r ≡ Some refusal) × (unmakable_number 256 64 (n ∷ []) r ≡ Some (refusal_number refusal))) }
     {
         check_limits(&[n], r)?;
         Ok(Combinations {
@@ -102,9 +102,9 @@ impl Combinations {
     // Makes the combinations, and then all the calls on it: a history since the making.
     pub fn run_calls<T: Copy>(n: usize, r: usize, calls: &mut [Call<T>]) -> Result<usize, Refusal>
         ensures { MatchResult result
-            (λ count. (unmakable 256 64 (n ∷ []) r ≡ is_none) × (count ≡ length calls.old)
+            (λ count. (unmakable 256 64 (n ∷ []) r ≡ None) × (count ≡ length calls.old)
             × LifeLaw (CombinationRow n r) n r (one_start 64) (memories calls.old) (memories calls.new))
-            (λ refusal. (unmakable 256 64 (n ∷ []) r ≡ is_some refusal) × (unmakable_number 256 64 (n ∷ []) r ≡ is_some (refusal_number refusal)) × (calls.new ≡ calls.old)) }
+            (λ refusal. (unmakable 256 64 (n ∷ []) r ≡ Some refusal) × (unmakable_number 256 64 (n ∷ []) r ≡ Some (refusal_number refusal)) × (calls.new ≡ calls.old)) }
     {
         let mut enumerator = Combinations::new(n, r)?;
         Ok(run(&mut enumerator, calls))

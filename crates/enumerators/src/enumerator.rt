@@ -97,10 +97,10 @@ pub trait Enumerator {
         Ok(Answer::Item(()))
     }
 
-    // each row ahead has that many places
+    // each row ahead has `width` places
     ghost uniform: { (s : Self) → AllByRecursion (λ row. length row ≡ width s) (ahead s) };
 
-    // and its elements lie in the pool
+    // and its elements lie in the lent pool
     ghost within: { (s : Self) → AllByRecursion (λ row. AllByRecursion (λ p. p < size s) (positions (starts s) row)) (ahead s) };
 
     // each place of a row has a start

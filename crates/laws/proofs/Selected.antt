@@ -5,7 +5,7 @@ use Rattle.steps.specs.declared.fault.Fault.{Fault}
 use Rattle.steps.specs.declared.answer.Step.{Step}
 use Rattle.steps.specs.declared.answer.Step.TheVariants.{Item as item, Fault as fault}
 use Rattle.laws.specs.Items.{Decided}
-use Rattle.laws.proofs.Answers.{no-cons}
+use Rattle.laws.proofs.Answers.{no_cons}
 use Rattle.laws.specs.Compress.{keep_on, compressed, compresses, CompressAfter, compress_go, compressing, compress_after, CompressLeft, compress_end, compress_ends, one_if, accepted, KeepsAccepted, CompressDraws}
 
 -- the n-th of what is kept, one pair further: behind the datum if its selector is accepted
@@ -85,15 +85,15 @@ compress_stays p false ds ts = compressing_stays p ds ts
 -- a call that says end is the last that draws
 go_ended : {A B : Type 0} (r : Result Bool Fault) (a : A) (gives : List (Step A)) (ds : List (Step A)) (ts : List (Step B)) (more : CompressAfter A B) →
     (gives ≡ [] → more.ended ≡ true) → keep_on r a gives ≡ [] → (compress_go r ds ts more).ended ≡ true
-go_ended (Ok true) a gives ds ts more h e = absurd (no-cons (item a) gives e)
+go_ended (Ok true) a gives ds ts more h e = absurd (no_cons (item a) gives e)
 go_ended (Ok false) a gives ds ts more h e = h e
-go_ended (Err f) a gives ds ts more h e = absurd (no-cons (fault f) gives e)
+go_ended (Err f) a gives ds ts more h e = absurd (no_cons (fault f) gives e)
 
 compressing_ended : {A B : Type 0} (p : B → Result Bool Fault) (ds : List (Step A)) (ts : List (Step B)) → compressed p ds ts ≡ [] → (compressing p ds ts).ended ≡ true
 compressing_ended p [] ts e = refl
-compressing_ended p (fault f ∷ ds) ts e = absurd (no-cons (fault f) (compressed p ds ts) e)
+compressing_ended p (fault f ∷ ds) ts e = absurd (no_cons (fault f) (compressed p ds ts) e)
 compressing_ended p (item a ∷ ds) [] e = refl
-compressing_ended p (item a ∷ ds) (fault f ∷ ts) e = absurd (no-cons (fault f) (compressed p ds ts) e)
+compressing_ended p (item a ∷ ds) (fault f ∷ ts) e = absurd (no_cons (fault f) (compressed p ds ts) e)
 compressing_ended p (item a ∷ ds) (item b ∷ ts) e = go_ended (p b) a (compressed p ds ts) ds ts (compressing p ds ts) (compressing_ended p ds ts) e
 
 pub compress_ended : {A B : Type 0} (p : B → Result Bool Fault) (ended : Bool) (ds : List (Step A)) (ts : List (Step B)) → compresses p ended ds ts ≡ [] → (compress_after p ended ds ts).ended ≡ true

@@ -7,7 +7,7 @@ use Rattle.steps.specs.declared.fault.Fault.{Fault}
 use Rattle.steps.specs.declared.answer.Step.{Step}
 use Rattle.steps.specs.declared.answer.Step.TheVariants.{Item as item, Fault as fault}
 use Rattle.laws.specs.Items.{given, items, past}
-use Rattle.laws.proofs.Answers.{no-cons}
+use Rattle.laws.proofs.Answers.{no_cons}
 use Rattle.laws.specs.Islice.{maxsize, Bounds, small, or_else, checked, bounds, larger, until, raised, reached, over, number, counted, slices, SliceAfter, slice_after, slice_end, below_stop, EveryStep, DrawnByEnd}
 
 -- without a stop the numbers end where 64 bits do
@@ -156,11 +156,11 @@ pub end_left : {A : Type 0} (stop : Option ℕ) (stride : ℕ) (ss : List (Step 
     Ended (slices stop stride next cur ss) (slice_after stop stride next cur ss) (slice_end stop stride next cur ss)
 end_left stop stride [] next cur = λ e. refl
 end_left stop stride (fault f ∷ ss) next cur =
-    cond_three Ended (over stop next cur) _ _ _ _ _ _ (λ o e. refl) (λ o e. absurd (no-cons _ _ e))
+    cond_three Ended (over stop next cur) _ _ _ _ _ _ (λ o e. refl) (λ o e. absurd (no_cons _ _ e))
 end_left stop stride (item a ∷ ss) next cur =
     cond_three Ended (over stop next cur) _ _ _ _ _ _
     (λ o e. refl)
-    (λ o. cond_three Ended (ltb cur (number next)) _ _ _ _ _ _ (λ l. end_left stop stride ss next (cur + 1)) (λ l e. absurd (no-cons _ _ e)))
+    (λ o. cond_three Ended (ltb cur (number next)) _ _ _ _ _ _ (λ l. end_left stop stride ss next (cur + 1)) (λ l e. absurd (no_cons _ _ e)))
 
 -- and another call draws nothing
 abbrev Rests : {A : Type 0} → Option ℕ → ℕ → List (Step A) → SliceAfter A → Type 0
@@ -170,11 +170,11 @@ pub end_rests : {A : Type 0} (stop : Option ℕ) (stride : ℕ) (ss : List (Step
     Rests stop stride (slices stop stride next cur ss) (slice_after stop stride next cur ss)
 end_rests {A} stop stride [] next cur = λ e. refl
 end_rests {A} stop stride (fault f ∷ ss) next cur =
-    cond_two (Rests stop stride) (over stop next cur) _ _ _ _ (λ o e. ap (λ (r : SliceAfter A). r.left) (cond-true _ _ _ o)) (λ o e. absurd (no-cons _ _ e))
+    cond_two (Rests stop stride) (over stop next cur) _ _ _ _ (λ o e. ap (λ (r : SliceAfter A). r.left) (cond-true _ _ _ o)) (λ o e. absurd (no_cons _ _ e))
 end_rests {A} stop stride (item a ∷ ss) next cur =
     cond_two (Rests stop stride) (over stop next cur) _ _ _ _
     (λ o e. ap (λ (r : SliceAfter A). r.left) (cond-true _ _ _ o))
-    (λ o. cond_two (Rests stop stride) (ltb cur (number next)) _ _ _ _ (λ l. end_rests stop stride ss next (cur + 1)) (λ l e. absurd (no-cons _ _ e)))
+    (λ o. cond_two (Rests stop stride) (ltb cur (number next)) _ _ _ _ (λ l. end_rests stop stride ss next (cur + 1)) (λ l e. absurd (no_cons _ _ e)))
 
 -- with a stop, as many items are drawn as lie before it
 past_none : {A : Type 0} (n : ℕ) → past {A = A} n [] ≡ []

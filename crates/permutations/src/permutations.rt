@@ -1,4 +1,4 @@
-ghost use Rattle.std.specs.Prelude.{◌≡◌, ℕ, suc, ◌+◌, ◌-◌, ◌<◌, ◌≤◌, min, true, false, List, [], ◌∷◌, length, take, drop, Some as is_some, None as is_none, MatchResult, nat_lt, slice_index, slice_set};
+ghost use Rattle.std.specs.Prelude.{◌≡◌, ℕ, suc, ◌+◌, ◌-◌, ◌<◌, ◌≤◌, min, true, false, List, [], ◌∷◌, length, take, drop, MatchResult, nat_lt, slice_index, slice_set};
 ghost use Rattle.steps.specs.Refusals.{refusal_number};
 ghost use Rattle.rows.specs.Calls.{unmakable, unmakable_number, one_start};
 ghost use Rattle.rows.specs.Runs.{LifeLaw};
@@ -111,9 +111,9 @@ impl Permutations {
     // The permutations of `r` from a pool of `n` elements, of all where `r` is absent.
     pub fn new(n: usize, r: Option<usize>) -> Result<Permutations, Refusal>
         ensures { MatchResult result
-            (λ e. (unmakable 256 64 (n ∷ []) (row_length n r) ≡ is_none) × (e.n ≡ n) × (e.r ≡ row_length n r)
+            (λ e. (unmakable 256 64 (n ∷ []) (row_length n r) ≡ None) × (e.n ≡ n) × (e.r ≡ row_length n r)
             × AllAhead (PermutationRow n (row_length n r)) (permutation_rows n (row_length n r)) (ahead_from e.exhausted (take e.r e.indices) (permutation_rows e.n e.r)))
-            (λ refusal. (unmakable 256 64 (n ∷ []) (row_length n r) ≡ is_some refusal) × (unmakable_number 256 64 (n ∷ []) (row_length n r) ≡ is_some (refusal_number refusal))) }
+            (λ refusal. (unmakable 256 64 (n ∷ []) (row_length n r) ≡ Some refusal) × (unmakable_number 256 64 (n ∷ []) (row_length n r) ≡ Some (refusal_number refusal))) }
     {
         let places = r.unwrap_or(n);
         check_limits(&[n], places)?;
@@ -133,9 +133,9 @@ impl Permutations {
         calls: &mut [Call<T>],
     ) -> Result<usize, Refusal>
         ensures { MatchResult result
-            (λ count. (unmakable 256 64 (n ∷ []) (row_length n r) ≡ is_none) × (count ≡ length calls.old)
+            (λ count. (unmakable 256 64 (n ∷ []) (row_length n r) ≡ None) × (count ≡ length calls.old)
             × LifeLaw (PermutationRow n (row_length n r)) n (row_length n r) (one_start 64) (memories calls.old) (memories calls.new))
-            (λ refusal. (unmakable 256 64 (n ∷ []) (row_length n r) ≡ is_some refusal) × (unmakable_number 256 64 (n ∷ []) (row_length n r) ≡ is_some (refusal_number refusal)) × (calls.new ≡ calls.old)) }
+            (λ refusal. (unmakable 256 64 (n ∷ []) (row_length n r) ≡ Some refusal) × (unmakable_number 256 64 (n ∷ []) (row_length n r) ≡ Some (refusal_number refusal)) × (calls.new ≡ calls.old)) }
     {
         let mut enumerator = Permutations::new(n, r)?;
         Ok(run(&mut enumerator, calls))

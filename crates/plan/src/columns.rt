@@ -1,5 +1,4 @@
-// The parts that the lines of an account are made of. A format's own width says nothing to a clause,
-// so each part tells by itself what it shows.
+// The parts that the lines of an account are made of. Each part tells by itself what it shows, as specs/ says it.
 ghost use Rattle.std.specs.Prelude.{◌≡◌, length, Some, decimal};
 ghost use Rattle.plan.specs.Parts.{padded, two_digits, clock, bay_text, stay};
 

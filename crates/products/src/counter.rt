@@ -14,7 +14,7 @@ pub(crate) struct Counter {
 
 // The length of the pool that each place is of, the pools coming again and again.
 fn repeat_lengths(lengths: &[usize], width: usize) -> [u16; 64]
-    requires { (AllByRecursion (λ n. n ≤ 256) lengths.now) × ((width ≤ 64) × ((0 < width → 0 < length lengths.now))) }
+    requires { (AllByRecursion (λ n. n ≤ 256) lengths.now) × ((width ≤ 64) × (0 < width → 0 < length lengths.now)) }
     ensures { (k : ℕ) → k < width → slice_index result k ≡ slice_index lengths.now (k % length lengths.now) }
 {
     let mut repeated = [0u16; 64];
@@ -27,7 +27,7 @@ fn repeat_lengths(lengths: &[usize], width: usize) -> [u16; 64]
 impl Counter {
     // All places at 0, and `cur` at the last of them; one below zero, by wrapping, where there is none.
     pub(crate) fn new(lengths: &[usize], width: usize) -> Counter
-        requires { (AllByRecursion (λ n. n ≤ 256) lengths.now) × ((width ≤ 64) × ((0 < width → 0 < length lengths.now))) }
+        requires { (AllByRecursion (λ n. n ≤ 256) lengths.now) × ((width ≤ 64) × (0 < width → 0 < length lengths.now)) }
         ensures sized { result.width ≡ width }
         ensures lengths { (k : ℕ) → k < width → slice_index result.lengths k ≡ slice_index lengths.now (k % length lengths.now) }
         ensures zeros { (k : ℕ) → k < 64 → slice_index result.idxs k ≡ 0 }
@@ -64,7 +64,7 @@ impl Counter {
 
     // Raises the place `cur`. One at its last element goes back to 0, and the rule applies again to the place before it.
     pub(crate) fn update_idxs(&mut self)
-        requires { (self.old.width ≤ 64) × ((self.old.stop ≡ false) × (((0 < self.old.width → self.old.cur < self.old.width)) × (Inside self.old.width self.old.lengths self.old.idxs))) }
+        requires { (self.old.width ≤ 64) × ((self.old.stop ≡ false) × ((0 < self.old.width → self.old.cur < self.old.width) × (Inside self.old.width self.old.lengths self.old.idxs))) }
         ensures sized { self.new.width ≡ self.old.width }
         ensures lengths { self.new.lengths ≡ self.old.lengths }
         ensures room { length self.new.idxs ≡ length self.old.idxs }

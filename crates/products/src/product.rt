@@ -1,4 +1,4 @@
-ghost use Rattle.std.specs.Prelude.{◌≡◌, ℕ, ◌+◌, ◌-◌, ◌*◌, ◌^◌, ◌<◌, ◌≤◌, min, true, false, List, length, take, Some as is_some, None as is_none, sum, MatchResult, slice_index};
+ghost use Rattle.std.specs.Prelude.{◌≡◌, ℕ, ◌+◌, ◌-◌, ◌*◌, ◌^◌, ◌<◌, ◌≤◌, min, true, false, List, length, take, sum, MatchResult, slice_index};
 ghost use Rattle.std.specs.List.{AllByRecursion};
 ghost use Rattle.steps.specs.Refusals.{refusal_number};
 ghost use Rattle.rows.specs.Calls.{unmakable, unmakable_number};
@@ -58,7 +58,7 @@ fn zeros() -> [u16; 64]
 
 // Where the pool of each place starts in the list that holds the pools one after another.
 fn starts_of(lengths: &[usize], width: usize) -> [u16; 64]
-    requires { (AllByRecursion (λ n. n ≤ 256) lengths.now) × ((length lengths.now ≤ 64) × ((width ≤ 64) × ((0 < width → 0 < length lengths.now)))) }
+    requires { (AllByRecursion (λ n. n ≤ 256) lengths.now) × ((length lengths.now ≤ 64) × ((width ≤ 64) × (0 < width → 0 < length lengths.now))) }
     ensures at { (k : ℕ) → k < width → slice_index result k ≡ pool_start lengths.now k }
     ensures behind { (k : ℕ) → width ≤ k → slice_index result k ≡ 0 }
 {
@@ -74,11 +74,11 @@ impl Product {
     // The product of pools of these lengths, `repeat` times over.
     pub fn new(lengths: &[usize], repeat: u32) -> Result<Product, Refusal>
         ensures { MatchResult result
-            (λ e. (unmakable 256 64 lengths.now (length lengths.now * repeat) ≡ is_none)
+            (λ e. (unmakable 256 64 lengths.now (length lengths.now * repeat) ≡ None)
             × (e.size ≡ sum lengths.now) × (e.counter.width ≡ length lengths.now * repeat)
             × PoolStarts lengths.now (length lengths.now * repeat) e.starts
             × AllAhead (ProductRow lengths.now repeat) (product_rows lengths.now repeat) (ahead_from e.counter.stop (take e.counter.width e.counter.idxs) (tuples (take e.counter.width e.counter.lengths))))
-            (λ refusal. (unmakable 256 64 lengths.now (length lengths.now * repeat) ≡ is_some refusal) × (unmakable_number 256 64 lengths.now (length lengths.now * repeat) ≡ is_some (refusal_number refusal))) }
+            (λ refusal. (unmakable 256 64 lengths.now (length lengths.now * repeat) ≡ Some refusal) × (unmakable_number 256 64 lengths.now (length lengths.now * repeat) ≡ Some (refusal_number refusal))) }
     {
         let width = row_length(lengths.len(), repeat);
         check_limits(lengths, width)?;
@@ -96,10 +96,10 @@ impl Product {
         calls: &mut [Call<T>],
     ) -> Result<usize, Refusal>
         ensures { MatchResult result
-            (λ count. (unmakable 256 64 lengths.now (length lengths.now * repeat) ≡ is_none) × (count ≡ length calls.old)
+            (λ count. (unmakable 256 64 lengths.now (length lengths.now * repeat) ≡ None) × (count ≡ length calls.old)
             × ((starts : List ℕ) × PoolStarts lengths.now (length lengths.now * repeat) starts
             × LifeLaw (ProductRow lengths.now repeat) (sum lengths.now) (length lengths.now * repeat) starts (memories calls.old) (memories calls.new)))
-            (λ refusal. (unmakable 256 64 lengths.now (length lengths.now * repeat) ≡ is_some refusal) × (unmakable_number 256 64 lengths.now (length lengths.now * repeat) ≡ is_some (refusal_number refusal)) × (calls.new ≡ calls.old)) }
+            (λ refusal. (unmakable 256 64 lengths.now (length lengths.now * repeat) ≡ Some refusal) × (unmakable_number 256 64 lengths.now (length lengths.now * repeat) ≡ Some (refusal_number refusal)) × (calls.new ≡ calls.old)) }
     {
         let mut enumerator = Product::new(lengths, repeat)?;
         Ok(run(&mut enumerator, calls))

@@ -1,5 +1,5 @@
 // The predicates that scenarios name.
-ghost use Rattle.std.specs.Prelude.{Ok as is_ok, nat_lt};
+ghost use Rattle.std.specs.Prelude.{Ok, nat_lt};
 ghost use Rattle.replay.specs.Guards.{guarded};
 ghost use Rattle.replay.specs.Origins.{guarded_origin};
 ghost use Rattle.std.proofs.Common.{rules};
@@ -38,7 +38,7 @@ impl<P: Predicate<u64>> Predicate<u64> for Guarded<P> {
 pub struct NonZero;
 
 impl Predicate<u64> for NonZero {
-    ghost says = { λ _ n. is_ok (nat_lt 0 n) };
+    ghost says = { λ _ n. Ok (nat_lt 0 n) };
 
     ghost origin = { Prim.search rules };
 

@@ -1,5 +1,5 @@
 -- The counter of a product: how a place is raised, where the pools start in the lent list.
-use Rattle.std.specs.Prelude.{◌≡◌, ℕ, ◌+◌, ◌%◌, ◌<◌, ◌≤◌, Bool, false, ◌||◌, List, [], ◌∷◌, map, length, get_or, take, sum, ◌==◌, slice_index, slice_index_or}
+use Rattle.std.specs.Prelude.{◌≡◌, ℕ, ◌+◌, ◌%◌, ◌<◌, ◌≤◌, Bool, false, ◌||◌, List, [], ◌∷◌, map, length, take, sum, ◌==◌, slice_index, slice_index_or}
 use Rattle.std.specs.List.{flat_map}
 use Rattle.rows.specs.Calls.{one_at}
 use Rattle.rows.specs.Successor.{Agree}
@@ -24,8 +24,8 @@ pub record PoolStarts (lengths : List ℕ) (width : ℕ) (starts : List ℕ) : T
 pub record Carried (lengths before after : List ℕ) (cur j : ℕ) : Type 0 where
   pub place : j ≤ cur
   pub front : Agree j before after
-  pub up : get_or after j 0 ≡ slice_index before j + 1
-  pub free : get_or before j 0 + 1 < slice_index lengths j
+  pub up : slice_index after j ≡ slice_index before j + 1
+  pub free : slice_index before j + 1 < slice_index lengths j
   pub zeros : (k : ℕ) → j < k → k ≤ cur → slice_index after k ≡ 0
   pub full : (k : ℕ) → j < k → k ≤ cur → slice_index before k + 1 ≡ slice_index lengths k
   pub rest : (k : ℕ) → cur < k → slice_index after k ≡ slice_index before k

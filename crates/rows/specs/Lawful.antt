@@ -1,6 +1,6 @@
 -- Lawful rows, and which of two rows comes first. A place is a position in a pool, counted from 0; a row is a list of
 -- places. A row of no places is lawful wherever rows have no places.
-use Rattle.std.specs.Prelude.{◌≡◌, ℕ, ◌*◌, ◌%◌, ◌<◌, ◌≤◌, List, [], length, get_or, ◌≢◌, slice_index, slice_index_or}
+use Rattle.std.specs.Prelude.{◌≡◌, ℕ, ◌*◌, ◌%◌, ◌<◌, ◌≤◌, List, [], length, ◌≢◌, slice_index, slice_index_or}
 
 -- a row of a product of m pools that are repeated q times: m × q places, place i below the length of pool i mod m
 pub record ProductRow (lengths : List ℕ) (q : ℕ) (row : List ℕ) : Type 0 where
@@ -31,7 +31,7 @@ pub record Before (xs ys : List ℕ) : Type 0 where
   pub in_first : at < length xs
   pub in_second : at < length ys
   pub agree : (k : ℕ) → k < at → slice_index xs k ≡ slice_index ys k
-  pub smaller : get_or xs at 0 < slice_index ys at
+  pub smaller : slice_index xs at < slice_index ys at
 
 -- a list of all lawful rows, the earlier first; so each of them stands in it exactly once
 pub record AllInOrder (Lawful : List ℕ → Type 0) (rows : List (List ℕ)) : Type 0 where

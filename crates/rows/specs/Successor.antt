@@ -1,7 +1,7 @@
 -- When one row comes right after another among the rows of a law: one place rises as little as the law allows, the places
 -- before it stay, and those behind it go from as high as they can be to as low as they can be. The rows stand in the
 -- first r places of two lists.
-use Rattle.std.specs.Prelude.{◌≡◌, ℕ, ◌<◌, ◌≤◌, List, slice_index, slice_index_or}
+use Rattle.std.specs.Prelude.{◌≡◌, ℕ, ◌<◌, ◌≤◌, List, slice_index}
 
 -- two rows agree before the place j
 abbrev pub Agree : ℕ → List ℕ → List ℕ → Type 0
@@ -11,7 +11,7 @@ pub record Next (Law : List ℕ → Type 0) (r : ℕ) (cur next : List ℕ) : Ty
   pub at : ℕ
   pub place : at < r
   pub front : Agree at cur next
-  pub up : slice_index_or cur at 0 < slice_index next at
+  pub up : slice_index cur at < slice_index next at
   pub gap : (y : List ℕ) → Law y → Agree at cur y → slice_index cur at < slice_index y at → slice_index next at ≤ slice_index y at
   pub high : (y : List ℕ) → Law y → (m : ℕ) → at < m → m < r → Agree m cur y → slice_index y m ≤ slice_index cur m
   pub low : (y : List ℕ) → Law y → (m : ℕ) → at < m → m < r → Agree m next y → slice_index next m ≤ slice_index y m

@@ -1,4 +1,4 @@
-ghost use Rattle.std.specs.Prelude.{Ok as is_ok, nat_eq};
+ghost use Rattle.std.specs.Prelude.{Ok, nat_eq};
 ghost use Rattle.rules.specs.Rules.{bay_and_bus, same_block, same_pair};
 ghost use Rattle.std.proofs.Common.{rules};
 
@@ -12,7 +12,7 @@ pub struct Itself;
 impl Keying<u64> for Itself {
     type Key = u64;
 
-    ghost key = { λ _ n. is_ok n };
+    ghost key = { λ _ n. Ok n };
 
     ghost same = { nat_eq };
 
@@ -37,7 +37,7 @@ impl Keying<u64> for Itself {
 impl Keying<Block> for Itself {
     type Key = Block;
 
-    ghost key = { λ _ b. is_ok b };
+    ghost key = { λ _ b. Ok b };
 
     ghost same = { same_block };
 
@@ -65,7 +65,7 @@ pub struct Bay;
 impl Keying<Block> for Bay {
     type Key = u16;
 
-    ghost key = { λ _ b. is_ok b.bay };
+    ghost key = { λ _ b. Ok b.bay };
 
     ghost same = { nat_eq };
 
@@ -93,7 +93,7 @@ pub struct BayAndBus;
 impl Keying<Block> for BayAndBus {
     type Key = (u16, u16);
 
-    ghost key = { λ _ b. is_ok (bay_and_bus b) };
+    ghost key = { λ _ b. Ok (bay_and_bus b) };
 
     ghost same = { same_pair };
 

@@ -1,4 +1,4 @@
-ghost use Rattle.std.specs.Prelude.{◌≡◌, Bool, true, Err as is_err, Result as AResult};
+ghost use Rattle.std.specs.Prelude.{◌≡◌, Bool, true, Err, Result as AResult};
 ghost use Rattle.steps.specs.declared.fault.Fault.{Fault as AFault};
 
 use crate::fault::Fault;
@@ -10,7 +10,7 @@ pub trait Predicate<T> {
     fn test(&self, item: T) -> Result<bool, Fault>
         ensures { result ≡ says self.now item };
 
-    ghost origin: { (s : Self) (a : T) (f : AFault) → says s a ≡ is_err f → (f.origin ≡ 2) × (f.place ≡ 0) };
+    ghost origin: { (s : Self) (a : T) (f : AFault) → says s a ≡ Err f → (f.origin ≡ 2) × (f.place ≡ 0) };
 }
 
 // A key or a fault for each item, and when two keys are the same.
@@ -27,7 +27,7 @@ pub trait Keying<T> {
     fn same_key(&self, a: Self::Key, b: Self::Key) -> bool
         ensures { result ≡ same a b };
 
-    ghost origin: { (s : Self) (a : T) (f : AFault) → key s a ≡ is_err f → (f.origin ≡ 3) × (f.place ≡ 0) };
+    ghost origin: { (s : Self) (a : T) (f : AFault) → key s a ≡ Err f → (f.origin ≡ 3) × (f.place ≡ 0) };
 
     ghost reflexive: { (q : Self.Key) → same q q ≡ true };
 
@@ -43,5 +43,5 @@ pub trait Joining<T> {
     fn join(&self, total: T, item: T) -> Result<T, Fault>
         ensures { result ≡ joins self.now total item };
 
-    ghost origin: { (s : Self) (a b : T) (f : AFault) → joins s a b ≡ is_err f → (f.origin ≡ 4) × (f.place ≡ 0) };
+    ghost origin: { (s : Self) (a b : T) (f : AFault) → joins s a b ≡ Err f → (f.origin ≡ 4) × (f.place ≡ 0) };
 }

@@ -3,7 +3,7 @@ use Rattle.steps.specs.declared.answer.Answer.TheVariants.{End}
 use Rattle.steps.specs.Steps.{first}
 use Rattle.laws.specs.Items.{earlier, first_fault, kept_first}
 use Rattle.laws.specs.Compress.{compresses, compress_after, compress_ends, CompressDraws}
-use Rattle.laws.proofs.Answers.{end-first, earlier-none, first-kept}
+use Rattle.laws.proofs.Answers.{end_first, earlier_none, first_kept}
 use Rattle.laws.proofs.Selected.{compress_draws, compress_stays, compress_ended}
 use Rattle.adapters.proofs.compress.Compress.finish.Goals as goal
 
@@ -18,7 +18,7 @@ returns-in-Ok-End g c =
     let ts = g.S.Source.ahead s.selectors in
     let after = compress_after p s.ended ds ts in
     let end : c.next-answer.result ≡ Ok End = search rules in
-    let nil : compresses p s.ended ds ts ≡ [] = end-first (compresses p s.ended ds ts) (sym e.gives ∙ end) in
+    let nil : compresses p s.ended ds ts ≡ [] = end_first (compresses p s.ended ds ts) (sym e.gives ∙ end) in
     let over : after.ended ≡ true = compress_ended p s.ended ds ts nil in
     let left = ap (λ b. compress_ends b after.data_left after.selectors_left) (sym over) ∙ compress_stays p s.ended ds ts ∙ i.1 in
     let items = e.below_items ∙ ap (λ r. r.data_left) left in
@@ -26,7 +26,7 @@ returns-in-Ok-End g c =
     let ds0 = g.D.Source.ahead c.args.self.now.items in
     let ts0 = g.S.Source.ahead c.args.self.now.selectors in
     record {
-      meets = sym (earlier-none c.loop-met.met) ∙ ap (λ ss. earlier c.loop-met.met (first_fault ss)) (sym nil) ∙ i.2;
+      meets = sym (earlier_none c.loop-met.met) ∙ ap (λ ss. earlier c.loop-met.met (first_fault ss)) (sym nil) ∙ i.2;
       ended = e.ends ∙ over;
       below_items = items;
       below_selectors = selectors;
@@ -57,5 +57,5 @@ loop-met-preserved g c =
       ap (λ o. earlier o (first_fault (compresses (g.P.Predicate.says t.predicate) t.ended (g.D.Source.ahead t.items) (g.S.Source.ahead t.selectors))))
           (c.keep_first-met.ensures ∙ ap (kept_first c.loop-met.met) e.gives)
           ∙ ap (λ us. earlier (kept_first c.loop-met.met (first ahead)) (first_fault us)) e.leaves
-          ∙ first-kept c.loop-met.met ahead ∙ i.2,
+          ∙ first_kept c.loop-met.met ahead ∙ i.2,
     )

@@ -3,7 +3,7 @@ use Rattle.steps.specs.declared.answer.Answer.TheVariants.{End}
 use Rattle.steps.specs.Steps.{first, rest}
 use Rattle.laws.specs.Items.{earlier, first_fault, kept_first}
 use Rattle.laws.specs.Islice.{slices, slice_after, slice_end}
-use Rattle.laws.proofs.Answers.{end-first, earlier-none, first-kept}
+use Rattle.laws.proofs.Answers.{end_first, earlier_none, first_kept}
 use Rattle.laws.proofs.Slices.{end_stays, end_left, end_rests}
 use Rattle.adapters.proofs.islice.Islice.finish.Goals as goal
 
@@ -16,7 +16,7 @@ returns-in-Ok-End g c =
     let end : c.next-answer.result ≡ Ok End = search rules in
     let t = c.next-answer.new.self in
     let after = slice_after s.stop s.step s.next s.cur ss in
-    let nil : slices s.stop s.step s.next s.cur ss ≡ [] = end-first (slices s.stop s.step s.next s.cur ss) (sym e.gives ∙ end) in
+    let nil : slices s.stop s.step s.next s.cur ss ≡ [] = end_first (slices s.stop s.step s.next s.cur ss) (sym e.gives ∙ end) in
     let stop = e.keeps.0 in
     let stride = e.keeps.1 in
     let next = e.counts.0 in
@@ -25,7 +25,7 @@ returns-in-Ok-End g c =
     let again = end_rests s.stop s.step ss s.next s.cur nil in
     let rests : (slice_after t.stop t.step t.next t.cur (g.S.Source.ahead t.source)).left ≡ g.S.Source.ahead t.source = cc in
     record {
-      meets = sym (earlier-none c.loop-met.met) ∙ ap (λ us. earlier c.loop-met.met (first_fault us)) (sym nil) ∙ i.3;
+      meets = sym (earlier_none c.loop-met.met) ∙ ap (λ us. earlier c.loop-met.met (first_fault us)) (sym nil) ∙ i.3;
       ended = e.leaves ∙ ap rest nil;
       below = e.below ∙ end_left s.stop s.step ss s.next s.cur nil ∙ i.2;
       rests = rests;
@@ -51,5 +51,5 @@ loop-met-preserved g c =
           ∙ end_stays s.stop s.step ss s.next s.cur ∙ i.2,
       ap (λ o. earlier o (first_fault (slices t.stop t.step t.next t.cur (g.S.Source.ahead t.source)))) (c.keep_first-met.ensures ∙ ap (kept_first c.loop-met.met) e.gives)
           ∙ ap (λ us. earlier (kept_first c.loop-met.met (first ahead)) (first_fault us)) e.leaves
-          ∙ first-kept c.loop-met.met ahead ∙ i.3,
+          ∙ first_kept c.loop-met.met ahead ∙ i.3,
     )

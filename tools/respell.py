@@ -1,7 +1,8 @@
 #!/usr/bin/env python3
 """Brings the names of this repository's own definitions and lemmas to the spelling that Rattle's library has.
 
-usage: python3 tools/respell.py        at the top of the repository, once, behind Rattle's own porting script
+usage: python3 tools/respell.py          at the top of the repository, once, behind Rattle's own porting script
+       python3 tools/respell.py --look   prints the names that it would turn, and those that would fall together
 
 Words are in snake case (`first-row` becomes `first_row`), and facts, which are definitions that give a type, in camel
 case (`hex-digit` becomes `HexDigit`). A fact or a variant that a file of src/ had brought in under a lower-case name is

@@ -1,8 +1,6 @@
 -- Where a chain stands: what it has ahead, and where a call leaves it.
-use Rattle.std.specs.Prelude.{List, [], ◌∷◌, ◌++◌}
-use Rattle.steps.specs.declared.answer.Step.{Step}
-use Rattle.steps.specs.declared.answer.Step.TheVariants.{Item as item, Fault as fault}
-use Rattle.steps.specs.Steps.{rest}
+use Rattle.std.specs.Prelude.{List, [], ◌∷◌, ◌++◌, Ok, Err}
+use Rattle.steps.specs.Steps.{Step, rest}
 use Rattle.laws.specs.Chain.{until_fault}
 use Rattle.adapters.specs.declared.chain.Stage.{Stage}
 use Rattle.adapters.specs.declared.chain.Stage.TheVariants.{First, Second, Over}
@@ -28,12 +26,12 @@ second_left Over ss ts = ts
 -- the stage after a call: over after a fault and after the end
 abbrev pub in_second : {A : Type 0} → List (Step A) → Stage
 in_second [] = Over
-in_second (item a ∷ ts) = Second
-in_second (fault f ∷ ts) = Over
+in_second (Ok a ∷ ts) = Second
+in_second (Err f ∷ ts) = Over
 
 abbrev pub stage_after : {A : Type 0} → Stage → List (Step A) → List (Step A) → Stage
 stage_after First [] ts = in_second ts
-stage_after First (item a ∷ ss) ts = First
-stage_after First (fault f ∷ ss) ts = Over
+stage_after First (Ok a ∷ ss) ts = First
+stage_after First (Err f ∷ ss) ts = Over
 stage_after Second ss ts = in_second ts
 stage_after Over ss ts = Over

@@ -18,8 +18,8 @@ where
     S::Item: Copy,
 {
     pub fn new(source: S, joining: J, initial: Option<S::Item>) -> Self
-        ensures ahead { accumulates (J.Joining.joins result.joining) result.initial result.total (S.Source.ahead result.source) ≡ from_initial (J.Joining.joins joining) initial (S.Source.ahead source) }
-        ensures law { RunningTotals (J.Joining.joins joining) initial (S.Source.ahead source) (accumulates (J.Joining.joins result.joining) result.initial result.total (S.Source.ahead result.source)) }
+        ensures ahead { ⟦<Accumulate<S, J> as Source>⟧.ahead result ≡ from_initial (J.Joining.joins joining) initial (S.Source.ahead source) }
+        ensures law { RunningTotals (J.Joining.joins joining) initial (S.Source.ahead source) (⟦<Accumulate<S, J> as Source>⟧.ahead result) }
         ensures holds { (result.source ≡ source) × (result.joining ≡ joining) × (result.initial ≡ initial) × (result.total ≡ None) }
     {
         Accumulate {
@@ -40,8 +40,8 @@ where
     ghost ahead = { λ s. accumulates (J.Joining.joins s.joining) s.initial s.total (S.Source.ahead s.source) };
 
     fn next(&mut self) -> Result<Answer<S::Item>, Fault>
-        ensures gives { result ≡ first_answer (accumulates (J.Joining.joins self.old.joining) self.old.initial self.old.total (S.Source.ahead self.old.source)) }
-        ensures leaves { accumulates (J.Joining.joins self.new.joining) self.new.initial self.new.total (S.Source.ahead self.new.source) ≡ rest_of (accumulates (J.Joining.joins self.old.joining) self.old.initial self.old.total (S.Source.ahead self.old.source)) }
+        ensures gives { result ≡ first_answer (⟦<Accumulate<S, J> as Source>⟧.ahead self.old) }
+        ensures leaves { ⟦<Accumulate<S, J> as Source>⟧.ahead self.new ≡ rest_of (⟦<Accumulate<S, J> as Source>⟧.ahead self.old) }
         ensures below { S.Source.ahead self.new.source ≡ accumulate_left self.old.initial self.old.total (S.Source.ahead self.old.source) }
         ensures totals { self.new.total ≡ total_after (J.Joining.joins self.old.joining) self.old.initial self.old.total (S.Source.ahead self.old.source) }
         ensures keeps { (self.new.joining ≡ self.old.joining) × (self.new.initial ≡ self.old.initial) }

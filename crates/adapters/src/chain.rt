@@ -28,13 +28,6 @@ impl<A: Source, B: Source<Item = A::Item>> Chain<A, B> {
         ensures law { OneAfterOther (A.Source.ahead first) (B.Source.ahead second) (chains result.stage (A.Source.ahead result.first) (B.Source.ahead result.second)) }
         ensures holds { (result.first ≡ first) × (result.second ≡ second) × (result.stage ≡ at_first) }
     {
-        Self::fresh(first, second)
-    }
-
-    // One that was not stepped yet.
-    fn fresh(first: A, second: B) -> Self
-        ensures holds { (result.first ≡ first) × (result.second ≡ second) × (result.stage ≡ at_first) }
-    {
         Chain {
             first,
             second,
@@ -52,8 +45,8 @@ where
     ghost ahead = { λ s. chains s.stage (A.Source.ahead s.first) (B.Source.ahead s.second) };
 
     fn next(&mut self) -> Result<Answer<A::Item>, Fault>
-        ensures gives { result ≡ first_answer (chains self.old.stage (A.Source.ahead self.old.first) (B.Source.ahead self.old.second)) }
-        ensures leaves { chains self.new.stage (A.Source.ahead self.new.first) (B.Source.ahead self.new.second) ≡ rest_of (chains self.old.stage (A.Source.ahead self.old.first) (B.Source.ahead self.old.second)) }
+        ensures gives { result ≡ first_answer (⟦<Chain<A, B> as Source>⟧.ahead self.old) }
+        ensures leaves { ⟦<Chain<A, B> as Source>⟧.ahead self.new ≡ rest_of (⟦<Chain<A, B> as Source>⟧.ahead self.old) }
         ensures below_first { A.Source.ahead self.new.first ≡ first_left self.old.stage (A.Source.ahead self.old.first) }
         ensures below_second { B.Source.ahead self.new.second ≡ second_left self.old.stage (A.Source.ahead self.old.first) (B.Source.ahead self.old.second) }
         ensures stands { self.new.stage ≡ stage_after self.old.stage (A.Source.ahead self.old.first) (B.Source.ahead self.old.second) }

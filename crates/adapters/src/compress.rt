@@ -20,15 +20,8 @@ where
     D::Item: Drop,
 {
     pub fn new(items: D, selectors: S, predicate: P) -> Self
-        ensures ahead { compresses (P.Predicate.says result.predicate) result.ended (D.Source.ahead result.items) (S.Source.ahead result.selectors) ≡ compressed (P.Predicate.says predicate) (D.Source.ahead items) (S.Source.ahead selectors) }
-        ensures law { KeepsAccepted (P.Predicate.says predicate) (D.Source.ahead items) (S.Source.ahead selectors) (compresses (P.Predicate.says result.predicate) result.ended (D.Source.ahead result.items) (S.Source.ahead result.selectors)) }
-        ensures holds { (result.items ≡ items) × (result.selectors ≡ selectors) × (result.predicate ≡ predicate) × (result.ended ≡ false) }
-    {
-        Self::fresh(items, selectors, predicate)
-    }
-
-    // One that was not stepped yet.
-    fn fresh(items: D, selectors: S, predicate: P) -> Self
+        ensures ahead { ⟦<Compress<D, S, P> as Source>⟧.ahead result ≡ compressed (P.Predicate.says predicate) (D.Source.ahead items) (S.Source.ahead selectors) }
+        ensures law { KeepsAccepted (P.Predicate.says predicate) (D.Source.ahead items) (S.Source.ahead selectors) (⟦<Compress<D, S, P> as Source>⟧.ahead result) }
         ensures holds { (result.items ≡ items) × (result.selectors ≡ selectors) × (result.predicate ≡ predicate) × (result.ended ≡ false) }
     {
         Compress {
@@ -49,8 +42,8 @@ where
     ghost ahead = { λ s. compresses (P.Predicate.says s.predicate) s.ended (D.Source.ahead s.items) (S.Source.ahead s.selectors) };
 
     fn next(&mut self) -> Result<Answer<D::Item>, Fault>
-        ensures gives { result ≡ first_answer (compresses (P.Predicate.says self.old.predicate) self.old.ended (D.Source.ahead self.old.items) (S.Source.ahead self.old.selectors)) }
-        ensures leaves { compresses (P.Predicate.says self.new.predicate) self.new.ended (D.Source.ahead self.new.items) (S.Source.ahead self.new.selectors) ≡ rest_of (compresses (P.Predicate.says self.old.predicate) self.old.ended (D.Source.ahead self.old.items) (S.Source.ahead self.old.selectors)) }
+        ensures gives { result ≡ first_answer (⟦<Compress<D, S, P> as Source>⟧.ahead self.old) }
+        ensures leaves { ⟦<Compress<D, S, P> as Source>⟧.ahead self.new ≡ rest_of (⟦<Compress<D, S, P> as Source>⟧.ahead self.old) }
         ensures below_items { D.Source.ahead self.new.items ≡ (compress_after (P.Predicate.says self.old.predicate) self.old.ended (D.Source.ahead self.old.items) (S.Source.ahead self.old.selectors)).data_left }
         ensures below_selectors { S.Source.ahead self.new.selectors ≡ (compress_after (P.Predicate.says self.old.predicate) self.old.ended (D.Source.ahead self.old.items) (S.Source.ahead self.old.selectors)).selectors_left }
         ensures ends { self.new.ended ≡ (compress_after (P.Predicate.says self.old.predicate) self.old.ended (D.Source.ahead self.old.items) (S.Source.ahead self.old.selectors)).ended }
@@ -79,7 +72,7 @@ where
 {
     // Steps the compress until it says end, and answers the first fault that it met, if any.
     pub fn finish(&mut self) -> Option<Fault>
-        ensures meets { result ≡ first_fault (compresses (P.Predicate.says self.old.predicate) self.old.ended (D.Source.ahead self.old.items) (S.Source.ahead self.old.selectors)) }
+        ensures meets { result ≡ first_fault (⟦<Compress<D, S, P> as Source>⟧.ahead self.old) }
         ensures ended { self.new.ended ≡ true }
         ensures below_items { D.Source.ahead self.new.items ≡ (compress_ends self.old.ended (D.Source.ahead self.old.items) (S.Source.ahead self.old.selectors)).data_left }
         ensures below_selectors { S.Source.ahead self.new.selectors ≡ (compress_ends self.old.ended (D.Source.ahead self.old.items) (S.Source.ahead self.old.selectors)).selectors_left }

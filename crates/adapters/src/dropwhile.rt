@@ -17,15 +17,8 @@ where
     S::Item: Copy,
 {
     pub fn new(predicate: P, source: S) -> Self
-        ensures ahead { drops (P.Predicate.says result.predicate) result.start_flag (S.Source.ahead result.source) ≡ dropped (P.Predicate.says predicate) (S.Source.ahead source) }
-        ensures law { BehindFront (P.Predicate.says predicate) (S.Source.ahead source) (drops (P.Predicate.says result.predicate) result.start_flag (S.Source.ahead result.source)) }
-        ensures holds { (result.predicate ≡ predicate) × (result.source ≡ source) × (result.start_flag ≡ false) }
-    {
-        Self::fresh(predicate, source)
-    }
-
-    // One that was not stepped yet.
-    fn fresh(predicate: P, source: S) -> Self
+        ensures ahead { ⟦<DropWhile<S, P> as Source>⟧.ahead result ≡ dropped (P.Predicate.says predicate) (S.Source.ahead source) }
+        ensures law { BehindFront (P.Predicate.says predicate) (S.Source.ahead source) (⟦<DropWhile<S, P> as Source>⟧.ahead result) }
         ensures holds { (result.predicate ≡ predicate) × (result.source ≡ source) × (result.start_flag ≡ false) }
     {
         DropWhile {
@@ -45,8 +38,8 @@ where
     ghost ahead = { λ s. drops (P.Predicate.says s.predicate) s.start_flag (S.Source.ahead s.source) };
 
     fn next(&mut self) -> Result<Answer<S::Item>, Fault>
-        ensures gives { result ≡ first_answer (drops (P.Predicate.says self.old.predicate) self.old.start_flag (S.Source.ahead self.old.source)) }
-        ensures leaves { drops (P.Predicate.says self.new.predicate) self.new.start_flag (S.Source.ahead self.new.source) ≡ rest_of (drops (P.Predicate.says self.old.predicate) self.old.start_flag (S.Source.ahead self.old.source)) }
+        ensures gives { result ≡ first_answer (⟦<DropWhile<S, P> as Source>⟧.ahead self.old) }
+        ensures leaves { ⟦<DropWhile<S, P> as Source>⟧.ahead self.new ≡ rest_of (⟦<DropWhile<S, P> as Source>⟧.ahead self.old) }
         ensures below { S.Source.ahead self.new.source ≡ (drop_after (P.Predicate.says self.old.predicate) self.old.start_flag (S.Source.ahead self.old.source)).left }
         ensures starts { self.new.start_flag ≡ (drop_after (P.Predicate.says self.old.predicate) self.old.start_flag (S.Source.ahead self.old.source)).started }
         ensures keeps { self.new.predicate ≡ self.old.predicate }

@@ -7,8 +7,5 @@ use steps::{Answer, Fault};
 pub fn keep_first<T: Drop>(met: Option<Fault>, answer: Result<Answer<T>, Fault>) -> Option<Fault>
     ensures { result ≡ kept_first met answer }
 {
-    match (met, answer) {
-        (None, Err(fault)) => Some(fault),
-        (met, _) => met,
-    }
+    met.or(answer.err())
 }

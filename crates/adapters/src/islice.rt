@@ -36,10 +36,7 @@ struct Window {
 fn is_small(entry: Option<u64>) -> bool
     ensures { result ≡ small entry }
 {
-    match entry {
-        Some(number) => number <= MAXSIZE,
-        None => true,
-    }
+    entry.is_none_or(|number| number <= MAXSIZE)
 }
 
 // The arguments are stop; start and stop; or start, stop and step. An absent one is start 0, no stop, step 1.
@@ -73,21 +70,14 @@ fn check_window(start: Option<u64>, stop: Option<u64>, step: Option<u64>) -> Opt
 fn is_reached(stop: Option<u64>, cur: u64) -> bool
     ensures { result ≡ reached stop cur }
 {
-    match stop {
-        Some(stop) => stop <= cur,
-        None => false,
-    }
+    stop.is_some_and(|stop| stop <= cur)
 }
 
 // How many items are drawn by the end: up to the stop, and those before the start in any case.
 fn drawn_until(start: u64, stop: Option<u64>) -> Option<u64>
     ensures { result ≡ until start stop }
 {
-    match stop {
-        Some(stop) if start < stop => Some(stop),
-        Some(_) => Some(start),
-        None => None,
-    }
+    stop.map(|stop| stop.max(start))
 }
 
 impl<S: Source> Islice<S> {
@@ -120,8 +110,8 @@ where
     ghost ahead = { λ s. slices s.stop s.step s.next s.cur (S.Source.ahead s.source) };
 
     fn next(&mut self) -> Result<Answer<S::Item>, Fault>
-        ensures gives { result ≡ first_answer (slices self.old.stop self.old.step self.old.next self.old.cur (S.Source.ahead self.old.source)) }
-        ensures leaves { slices self.new.stop self.new.step self.new.next self.new.cur (S.Source.ahead self.new.source) ≡ rest_of (slices self.old.stop self.old.step self.old.next self.old.cur (S.Source.ahead self.old.source)) }
+        ensures gives { result ≡ first_answer (⟦<Islice<S> as Source>⟧.ahead self.old) }
+        ensures leaves { ⟦<Islice<S> as Source>⟧.ahead self.new ≡ rest_of (⟦<Islice<S> as Source>⟧.ahead self.old) }
         ensures below { S.Source.ahead self.new.source ≡ (slice_after self.old.stop self.old.step self.old.next self.old.cur (S.Source.ahead self.old.source)).left }
         ensures counts { (self.new.next ≡ (slice_after self.old.stop self.old.step self.old.next self.old.cur (S.Source.ahead self.old.source)).next) × (self.new.cur ≡ (slice_after self.old.stop self.old.step self.old.next self.old.cur (S.Source.ahead self.old.source)).cur) }
         ensures keeps { (self.new.stop ≡ self.old.stop) × (self.new.step ≡ self.old.step) }
@@ -156,8 +146,8 @@ where
 {
     // Steps the islice until it says end, and answers the first fault that it met, if any.
     pub fn finish(&mut self) -> Option<Fault>
-        ensures meets { result ≡ first_fault (slices self.old.stop self.old.step self.old.next self.old.cur (S.Source.ahead self.old.source)) }
-        ensures ended { slices self.new.stop self.new.step self.new.next self.new.cur (S.Source.ahead self.new.source) ≡ [] }
+        ensures meets { result ≡ first_fault (⟦<Islice<S> as Source>⟧.ahead self.old) }
+        ensures ended { ⟦<Islice<S> as Source>⟧.ahead self.new ≡ [] }
         ensures below { S.Source.ahead self.new.source ≡ slice_end self.old.stop self.old.step self.old.next self.old.cur (S.Source.ahead self.old.source) }
         ensures rests { (slice_after self.new.stop self.new.step self.new.next self.new.cur (S.Source.ahead self.new.source)).left ≡ S.Source.ahead self.new.source }
         ensures keeps { (self.new.stop ≡ self.old.stop) × (self.new.step ≡ self.old.step) }
@@ -186,12 +176,6 @@ where
 {
     let mut slice = Islice::new(source, arguments)?;
     let met = slice.finish();
-    let Islice {
-        source,
-        cur: _,
-        next: _,
-        stop: _,
-        step: _,
-    } = slice;
+    let Islice { source, .. } = slice;
     Ok((source, met))
 }

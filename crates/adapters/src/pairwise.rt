@@ -17,13 +17,6 @@ impl<S: Source> Pairwise<S> {
         ensures law { Neighbours (S.Source.ahead source) (pairs result.old (S.Source.ahead result.source)) }
         ensures holds { (result.source ≡ source) × (result.old ≡ None) }
     {
-        Self::fresh(source)
-    }
-
-    // One that was not stepped yet.
-    fn fresh(source: S) -> Self
-        ensures holds { (result.source ≡ source) × (result.old ≡ None) }
-    {
         Pairwise { source, old: None }
     }
 
@@ -52,8 +45,8 @@ where
     ghost ahead = { λ s. pairs s.old (S.Source.ahead s.source) };
 
     fn next(&mut self) -> Result<Answer<(S::Item, S::Item)>, Fault>
-        ensures gives { result ≡ first_answer (pairs self.entry.now.old (S.Source.ahead self.entry.now.source)) }
-        ensures leaves { pairs self.exit.now.old (S.Source.ahead self.exit.now.source) ≡ rest_of (pairs self.entry.now.old (S.Source.ahead self.entry.now.source)) }
+        ensures gives { result ≡ first_answer (⟦<Pairwise<S> as Source>⟧.ahead self.entry.now) }
+        ensures leaves { ⟦<Pairwise<S> as Source>⟧.ahead self.exit.now ≡ rest_of (⟦<Pairwise<S> as Source>⟧.ahead self.entry.now) }
         ensures below { S.Source.ahead self.exit.now.source ≡ pairs_left self.entry.now.old (S.Source.ahead self.entry.now.source) }
         ensures waits { self.exit.now.old ≡ pairs_old self.entry.now.old (S.Source.ahead self.entry.now.source) }
     {

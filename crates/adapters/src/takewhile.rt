@@ -17,15 +17,8 @@ where
     S::Item: Copy,
 {
     pub fn new(predicate: P, source: S) -> Self
-        ensures ahead { takes (P.Predicate.says result.predicate) result.stop_flag (S.Source.ahead result.source) ≡ taken (P.Predicate.says predicate) (S.Source.ahead source) }
-        ensures law { LongestFront (P.Predicate.says predicate) (S.Source.ahead source) (takes (P.Predicate.says result.predicate) result.stop_flag (S.Source.ahead result.source)) }
-        ensures holds { (result.predicate ≡ predicate) × (result.source ≡ source) × (result.stop_flag ≡ false) }
-    {
-        Self::fresh(predicate, source)
-    }
-
-    // One that was not stepped yet.
-    fn fresh(predicate: P, source: S) -> Self
+        ensures ahead { ⟦<TakeWhile<S, P> as Source>⟧.ahead result ≡ taken (P.Predicate.says predicate) (S.Source.ahead source) }
+        ensures law { LongestFront (P.Predicate.says predicate) (S.Source.ahead source) (⟦<TakeWhile<S, P> as Source>⟧.ahead result) }
         ensures holds { (result.predicate ≡ predicate) × (result.source ≡ source) × (result.stop_flag ≡ false) }
     {
         TakeWhile {
@@ -45,8 +38,8 @@ where
     ghost ahead = { λ s. takes (P.Predicate.says s.predicate) s.stop_flag (S.Source.ahead s.source) };
 
     fn next(&mut self) -> Result<Answer<S::Item>, Fault>
-        ensures gives { result ≡ first_answer (takes (P.Predicate.says self.old.predicate) self.old.stop_flag (S.Source.ahead self.old.source)) }
-        ensures leaves { takes (P.Predicate.says self.new.predicate) self.new.stop_flag (S.Source.ahead self.new.source) ≡ rest_of (takes (P.Predicate.says self.old.predicate) self.old.stop_flag (S.Source.ahead self.old.source)) }
+        ensures gives { result ≡ first_answer (⟦<TakeWhile<S, P> as Source>⟧.ahead self.old) }
+        ensures leaves { ⟦<TakeWhile<S, P> as Source>⟧.ahead self.new ≡ rest_of (⟦<TakeWhile<S, P> as Source>⟧.ahead self.old) }
         ensures below { S.Source.ahead self.new.source ≡ takes_left self.old.stop_flag (S.Source.ahead self.old.source) }
         ensures stops { self.new.stop_flag ≡ takes_stopped (P.Predicate.says self.old.predicate) self.old.stop_flag (S.Source.ahead self.old.source) }
         ensures keeps { self.new.predicate ≡ self.old.predicate }

@@ -19,15 +19,8 @@ where
     R::Item: Copy,
 {
     pub fn new(left: L, right: R, left_fill: L::Item, right_fill: R::Item) -> Self
-        ensures ahead { zipped result.left_fill result.right_fill (L.Source.ahead result.left) (R.Source.ahead result.right) ≡ zipped left_fill right_fill (L.Source.ahead left) (R.Source.ahead right) }
-        ensures law { LongestZip left_fill right_fill (L.Source.ahead left) (R.Source.ahead right) (zipped result.left_fill result.right_fill (L.Source.ahead result.left) (R.Source.ahead result.right)) }
-        ensures holds { (result.left ≡ left) × (result.right ≡ right) × (result.left_fill ≡ left_fill) × (result.right_fill ≡ right_fill) }
-    {
-        Self::fresh(left, right, left_fill, right_fill)
-    }
-
-    // One that was not stepped yet.
-    fn fresh(left: L, right: R, left_fill: L::Item, right_fill: R::Item) -> Self
+        ensures ahead { ⟦<ZipLongest<L, R> as Source>⟧.ahead result ≡ zipped left_fill right_fill (L.Source.ahead left) (R.Source.ahead right) }
+        ensures law { LongestZip left_fill right_fill (L.Source.ahead left) (R.Source.ahead right) (⟦<ZipLongest<L, R> as Source>⟧.ahead result) }
         ensures holds { (result.left ≡ left) × (result.right ≡ right) × (result.left_fill ≡ left_fill) × (result.right_fill ≡ right_fill) }
     {
         ZipLongest {
@@ -49,8 +42,8 @@ where
     ghost ahead = { λ s. zipped s.left_fill s.right_fill (L.Source.ahead s.left) (R.Source.ahead s.right) };
 
     fn next(&mut self) -> Result<Answer<(L::Item, R::Item)>, Fault>
-        ensures gives { result ≡ first_answer (zipped self.old.left_fill self.old.right_fill (L.Source.ahead self.old.left) (R.Source.ahead self.old.right)) }
-        ensures leaves { zipped self.new.left_fill self.new.right_fill (L.Source.ahead self.new.left) (R.Source.ahead self.new.right) ≡ rest_of (zipped self.old.left_fill self.old.right_fill (L.Source.ahead self.old.left) (R.Source.ahead self.old.right)) }
+        ensures gives { result ≡ first_answer (⟦<ZipLongest<L, R> as Source>⟧.ahead self.old) }
+        ensures leaves { ⟦<ZipLongest<L, R> as Source>⟧.ahead self.new ≡ rest_of (⟦<ZipLongest<L, R> as Source>⟧.ahead self.old) }
         ensures below_left { L.Source.ahead self.new.left ≡ rest_of (L.Source.ahead self.old.left) }
         ensures below_right { R.Source.ahead self.new.right ≡ right_left (L.Source.ahead self.old.left) (R.Source.ahead self.old.right) }
         ensures keeps { (self.new.left_fill ≡ self.old.left_fill) × (self.new.right_fill ≡ self.old.right_fill) }

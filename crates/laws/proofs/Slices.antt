@@ -1,11 +1,10 @@
 -- What islice gives, and what it has drawn by its end.
-use Rattle.std.proofs.Common.{◌≡◌, ℕ, zero, suc, ◌+◌, ◌-◌, ◌*◌, ◌^◌, ◌<◌, ◌≤◌, Bool, true, false, cond, ◌&&◌, ltb, leb, ◌⊎◌, List, [], ◌∷◌, map, length, Some, None, Option, sym, refl, ap, ◌∙◌, subst, ⊎_elim, suc-mul, zero-mul, arith}
+use Rattle.std.proofs.Common.{◌≡◌, ℕ, zero, suc, ◌+◌, ◌-◌, ◌*◌, ◌^◌, ◌<◌, ◌≤◌, Bool, true, false, cond, ◌&&◌, ltb, leb, ◌⊎◌, List, [], ◌∷◌, map, length, Some, None, Option, sym, refl, ap, ◌∙◌, subst, ⊎_elim, suc-mul, zero-mul, arith, Ok, Err}
+use Rattle.steps.specs.Steps.{Step}
 use Rattle.std.specs.List.{slice_get}
 use Rattle.std.proofs.lemmas.Bool.{ltb-true, ltb-false, leb-true, leb-false, lt-ltb, le-ltb, lt-leb, cond-true, cond-false, cond_both, cases_Bool, cases_lt, and_from, and_parts}
 use Rattle.std.proofs.lemmas.Bool.Decides.{nat_tests}
 use Rattle.steps.specs.declared.fault.Fault.{Fault}
-use Rattle.steps.specs.declared.answer.Step.{Step}
-use Rattle.steps.specs.declared.answer.Step.TheVariants.{Item as item, Fault as fault}
 use Rattle.laws.specs.Items.{given, items, past}
 use Rattle.laws.proofs.Answers.{no_cons}
 use Rattle.laws.specs.Islice.{maxsize, Bounds, small, or_else, checked, bounds, larger, until, raised, reached, over, number, counted, slices, SliceAfter, slice_after, slice_end, below_stop, EveryStep, DrawnByEnd}
@@ -40,8 +39,8 @@ raised_none n stride h = cond-false _ _ _ (ap (λ b. ltb 0 stride && b) (le-ltb 
 -- with no next number nothing is ahead
 no_number : {A : Type 0} (stop : Option ℕ) (stride cur : ℕ) (ss : List (Step A)) → slices stop stride None cur ss ≡ []
 no_number stop stride cur [] = refl
-no_number stop stride cur (item a ∷ ss) = refl
-no_number stop stride cur (fault f ∷ ss) = refl
+no_number stop stride cur (Ok a ∷ ss) = refl
+no_number stop stride cur (Err f ∷ ss) = refl
 
 nth_shift : {A : Type 0} (x : A) (xs : List A) (m cur : ℕ) → cur < m → slice_get (x ∷ xs) (m - cur) ≡ slice_get xs (m - (cur + 1))
 nth_shift x xs m cur h = let e : m - cur ≡ suc (m - (cur + 1)) = omega arith in ap (slice_get (x ∷ xs)) e
@@ -55,8 +54,8 @@ none_past stop stride n cur xs k h = sym (cond-false _ _ _ (le-ltb (n + k * stri
 
 -- at the item with the next number: it is given, or the numbers behind it are asked for
 module _ {A : Type 0} (stop : Option ℕ) (stride n : ℕ) (x : A) (xs : List A) (s : 0 < stride) (in64 : n < 2 ^ 64) (lim : limit stop ≤ 2 ^ 64) (lt : n < limit stop)
-    (behind : (m cur k : ℕ) → cur ≤ m → m < 2 ^ 64 → Every stop stride m cur xs k (slices stop stride (Some m) cur (map item xs))) where
-  given_here : (k : ℕ) → Every stop stride n n (x ∷ xs) k (item x ∷ slices stop stride (raised n stride) (counted (raised n stride) n n) (map item xs))
+    (behind : (m cur k : ℕ) → cur ≤ m → m < 2 ^ 64 → Every stop stride m cur xs k (slices stop stride (Some m) cur (map Ok xs))) where
+  given_here : (k : ℕ) → Every stop stride n n (x ∷ xs) k (Ok x ∷ slices stop stride (raised n stride) (counted (raised n stride) n n) (map Ok xs))
   given_here zero =
       let z : n + 0 * stride ≡ n = ap (λ u. n + u) (zero-mul stride) ∙ omega arith in
       let w : n + 0 * stride - n ≡ 0 = omega (arith, z) in
@@ -64,27 +63,27 @@ module _ {A : Type 0} (stop : Option ℕ) (stride n : ℕ) (x : A) (xs : List A)
       sym (cond-true _ _ _ t ∙ ap (λ u. given (slice_get (x ∷ xs) u)) w)
   given_here (suc k) =
       let m : n + suc k * stride ≡ n + stride + k * stride = omega (arith, suc-mul k stride) in
-      let on : (n + stride < 2 ^ 64) ⊎ (2 ^ 64 ≤ n + stride) → Every stop stride n n (x ∷ xs) (suc k) (item x ∷ slices stop stride (raised n stride) (counted (raised n stride) n n) (map item xs)) =
+      let on : (n + stride < 2 ^ 64) ⊎ (2 ^ 64 ≤ n + stride) → Every stop stride n n (x ∷ xs) (suc k) (Ok x ∷ slices stop stride (raised n stride) (counted (raised n stride) n n) (map Ok xs)) =
       ⊎_elim
       (λ h.
       let r = raised_some n stride s h in
-      ap (λ o. slice_get (slices stop stride o (counted o n n) (map item xs)) k) r
+      ap (λ o. slice_get (slices stop stride o (counted o n n) (map Ok xs)) k) r
       ∙ behind (n + stride) (n + 1) k (omega arith) h
       ∙ ap (λ o. cond (ltb (n + stride + k * stride) (limit stop)) (given o) None) (sym (nth_shift x xs (n + stride + k * stride) n (omega arith)))
       ∙ ap (λ u. cond (ltb u (limit stop)) (given (slice_get (x ∷ xs) (u - n))) None) (sym m))
       (λ h.
       let r = raised_none n stride h in
-      ap (λ o. slice_get (slices stop stride o (counted o n n) (map item xs)) k) r
-      ∙ ap (λ us. slice_get us k) (no_number stop stride n (map item xs))
+      ap (λ o. slice_get (slices stop stride o (counted o n n) (map Ok xs)) k) r
+      ∙ ap (λ us. slice_get us k) (no_number stop stride n (map Ok xs))
       ∙ sym (cond-false _ _ _ (le-ltb (n + suc k * stride) (limit stop) (omega (arith, m))))) in
       on (cases_lt (n + stride) (2 ^ 64))
 
 pub slices_at : {A : Type 0} (stop : Option ℕ) (stride : ℕ) → 0 < stride → limit stop ≤ 2 ^ 64 → (xs : List A) (n cur k : ℕ) → cur ≤ n → n < 2 ^ 64 →
-    Every stop stride n cur xs k (slices stop stride (Some n) cur (map item xs))
+    Every stop stride n cur xs k (slices stop stride (Some n) cur (map Ok xs))
 slices_at stop stride s lim [] n cur k h in64 = sym (cond_same (ltb (n + k * stride) (limit stop)) None)
 slices_at {A} stop stride s lim (x ∷ xs) n cur k h in64 =
-    let skipped = slices stop stride (Some n) (cur + 1) (map item xs) in
-    let kept = item x ∷ slices stop stride (raised n stride) (counted (raised n stride) cur n) (map item xs) in
+    let skipped = slices stop stride (Some n) (cur + 1) (map Ok xs) in
+    let kept = Ok x ∷ slices stop stride (raised n stride) (counted (raised n stride) cur n) (map Ok xs) in
     let Goal : List (Step A) → Type 0 = Every stop stride n cur (x ∷ xs) k in
     let rl = reached_limit stop cur (omega arith) in
     let ended : leb (limit stop) cur ≡ true → Goal (cond (reached stop cur) [] (cond (ltb cur n) skipped kept)) =
@@ -101,7 +100,7 @@ slices_at {A} stop stride s lim (x ∷ xs) n cur k h in64 =
     (λ l.
     let same : cur ≡ n = omega (arith, ltb-false cur n l) in
     subst Goal (sym (cond-false (ltb cur n) skipped kept l))
-    (subst (λ c. Every stop stride n c (x ∷ xs) k (item x ∷ slices stop stride (raised n stride) (counted (raised n stride) c n) (map item xs))) (sym same)
+    (subst (λ c. Every stop stride n c (x ∷ xs) k (Ok x ∷ slices stop stride (raised n stride) (counted (raised n stride) c n) (map Ok xs))) (sym same)
     (given_here stop stride n x xs s in64 lim (omega (arith, leb-false (limit stop) cur t)) (λ m c j. slices_at stop stride s lim xs m c j) k)))
     (cases_Bool (ltb cur n))) in
     ⊎_elim ended going (cases_Bool (leb (limit stop) cur))
@@ -136,9 +135,9 @@ EndsAs stop stride r left = slice_end stop stride r.next r.cur r.left ≡ left
 pub end_stays : {A : Type 0} (stop : Option ℕ) (stride : ℕ) (ss : List (Step A)) (next : Option ℕ) (cur : ℕ) →
     EndsAs stop stride (slice_after stop stride next cur ss) (slice_end stop stride next cur ss)
 end_stays stop stride [] next cur = refl
-end_stays stop stride (fault f ∷ ss) next cur =
+end_stays stop stride (Err f ∷ ss) next cur =
     cond_two (EndsAs stop stride) (over stop next cur) _ _ _ _ (λ e. cond-true _ _ _ e) (λ e. refl)
-end_stays stop stride (item a ∷ ss) next cur =
+end_stays stop stride (Ok a ∷ ss) next cur =
     cond_two (EndsAs stop stride) (over stop next cur) _ _ _ _
     (λ e. cond-true _ _ _ e)
     (λ e. cond_two (EndsAs stop stride) (ltb cur (number next)) _ _ _ _ (λ l. end_stays stop stride ss next (cur + 1)) (λ l. refl))
@@ -155,9 +154,9 @@ Ended gives r left = gives ≡ [] → r.left ≡ left
 pub end_left : {A : Type 0} (stop : Option ℕ) (stride : ℕ) (ss : List (Step A)) (next : Option ℕ) (cur : ℕ) →
     Ended (slices stop stride next cur ss) (slice_after stop stride next cur ss) (slice_end stop stride next cur ss)
 end_left stop stride [] next cur = λ e. refl
-end_left stop stride (fault f ∷ ss) next cur =
+end_left stop stride (Err f ∷ ss) next cur =
     cond_three Ended (over stop next cur) _ _ _ _ _ _ (λ o e. refl) (λ o e. absurd (no_cons _ _ e))
-end_left stop stride (item a ∷ ss) next cur =
+end_left stop stride (Ok a ∷ ss) next cur =
     cond_three Ended (over stop next cur) _ _ _ _ _ _
     (λ o e. refl)
     (λ o. cond_three Ended (ltb cur (number next)) _ _ _ _ _ _ (λ l. end_left stop stride ss next (cur + 1)) (λ l e. absurd (no_cons _ _ e)))
@@ -169,9 +168,9 @@ Rests stop stride gives r = gives ≡ [] → (slice_after stop stride r.next r.c
 pub end_rests : {A : Type 0} (stop : Option ℕ) (stride : ℕ) (ss : List (Step A)) (next : Option ℕ) (cur : ℕ) →
     Rests stop stride (slices stop stride next cur ss) (slice_after stop stride next cur ss)
 end_rests {A} stop stride [] next cur = λ e. refl
-end_rests {A} stop stride (fault f ∷ ss) next cur =
+end_rests {A} stop stride (Err f ∷ ss) next cur =
     cond_two (Rests stop stride) (over stop next cur) _ _ _ _ (λ o e. ap (λ (r : SliceAfter A). r.left) (cond-true _ _ _ o)) (λ o e. absurd (no_cons _ _ e))
-end_rests {A} stop stride (item a ∷ ss) next cur =
+end_rests {A} stop stride (Ok a ∷ ss) next cur =
     cond_two (Rests stop stride) (over stop next cur) _ _ _ _
     (λ o e. ap (λ (r : SliceAfter A). r.left) (cond-true _ _ _ o))
     (λ o. cond_two (Rests stop stride) (ltb cur (number next)) _ _ _ _ (λ l. end_rests stop stride ss next (cur + 1)) (λ l e. absurd (no_cons _ _ e)))
@@ -181,11 +180,11 @@ past_none : {A : Type 0} (n : ℕ) → past {A = A} n [] ≡ []
 past_none zero = refl
 past_none (suc n) = refl
 
-past_more : {A : Type 0} (n cur : ℕ) (a : A) (ss : List (Step A)) → cur < n → past (n - cur) (item a ∷ ss) ≡ past (n - (cur + 1)) ss
-past_more n cur a ss h = let e : n - cur ≡ suc (n - (cur + 1)) = omega arith in ap (λ m. past m (item a ∷ ss)) e
+past_more : {A : Type 0} (n cur : ℕ) (a : A) (ss : List (Step A)) → cur < n → past (n - cur) (Ok a ∷ ss) ≡ past (n - (cur + 1)) ss
+past_more n cur a ss h = let e : n - cur ≡ suc (n - (cur + 1)) = omega arith in ap (λ m. past m (Ok a ∷ ss)) e
 
-past_fault : {A : Type 0} (n cur : ℕ) (f : Fault) (ss : List (Step A)) → cur < n → past (n - cur) (fault f ∷ ss) ≡ past (n - cur) ss
-past_fault n cur f ss h = let e : n - cur ≡ suc (n - (cur + 1)) = omega arith in ap (λ m. past m (fault f ∷ ss)) e ∙ ap (λ m. past m ss) (sym e)
+past_fault : {A : Type 0} (n cur : ℕ) (f : Fault) (ss : List (Step A)) → cur < n → past (n - cur) (Err f ∷ ss) ≡ past (n - cur) ss
+past_fault n cur f ss h = let e : n - cur ≡ suc (n - (cur + 1)) = omega arith in ap (λ m. past m (Err f ∷ ss)) e ∙ ap (λ m. past m ss) (sym e)
 
 past_over : {A : Type 0} (n cur : ℕ) (ss : List (Step A)) → n ≤ cur → past (n - cur) ss ≡ ss
 past_over n cur ss h = let e : n - cur ≡ 0 = omega arith in ap (λ m. past m ss) e
@@ -193,15 +192,15 @@ past_over n cur ss h = let e : n - cur ≡ 0 = omega arith in ap (λ m. past m s
 pub end_past : {A : Type 0} (stop stride : ℕ) → 0 < stride → stop + stride ≤ 2 ^ 64 → (ss : List (Step A)) (n cur : ℕ) → cur ≤ n → n < 2 ^ 64 →
     slice_end (Some stop) stride (Some n) cur ss ≡ past (stop - cur) ss
 end_past stop stride s lim [] n cur h in64 = sym (past_none (stop - cur))
-end_past stop stride s lim (fault f ∷ ss) n cur h in64 =
-    cond_both (leb stop cur) (fault f ∷ ss) (slice_end (Some stop) stride (Some n) cur ss) (λ left. left ≡ past (stop - cur) (fault f ∷ ss))
-    (λ t. sym (past_over stop cur (fault f ∷ ss) (leb-true stop cur t)))
+end_past stop stride s lim (Err f ∷ ss) n cur h in64 =
+    cond_both (leb stop cur) (Err f ∷ ss) (slice_end (Some stop) stride (Some n) cur ss) (λ left. left ≡ past (stop - cur) (Err f ∷ ss))
+    (λ t. sym (past_over stop cur (Err f ∷ ss) (leb-true stop cur t)))
     (λ t. end_past stop stride s lim ss n cur h in64 ∙ sym (past_fault stop cur f ss (leb-false stop cur t)))
-end_past stop stride s lim (item a ∷ ss) n cur h in64 =
-    cond_both (leb stop cur) (item a ∷ ss) _ (λ left. left ≡ past (stop - cur) (item a ∷ ss))
-    (λ t. sym (past_over stop cur (item a ∷ ss) (leb-true stop cur t)))
+end_past stop stride s lim (Ok a ∷ ss) n cur h in64 =
+    cond_both (leb stop cur) (Ok a ∷ ss) _ (λ left. left ≡ past (stop - cur) (Ok a ∷ ss))
+    (λ t. sym (past_over stop cur (Ok a ∷ ss) (leb-true stop cur t)))
     (λ t. cond_both (ltb cur n) (slice_end (Some stop) stride (Some n) (cur + 1) ss) (slice_end (Some stop) stride (raised n stride) (counted (raised n stride) cur n) ss)
-    (λ left. left ≡ past (stop - cur) (item a ∷ ss))
+    (λ left. left ≡ past (stop - cur) (Ok a ∷ ss))
     (λ l. end_past stop stride s lim ss n (cur + 1) (omega (arith, ltb-true cur n l)) in64 ∙ sym (past_more stop cur a ss (leb-false stop cur t)))
     (λ l.
     let same : n ≡ cur = omega (arith, ltb-false cur n l) in
@@ -215,8 +214,8 @@ end_past stop stride s lim (item a ∷ ss) n cur h in64 =
 pub end_all : {A : Type 0} (stride : ℕ) → 0 < stride → (ss : List (Step A)) (n cur : ℕ) → cur ≤ n → n < 2 ^ 64 → cur + length (items ss) + stride ≤ 2 ^ 64 →
     slice_end None stride (Some n) cur ss ≡ []
 end_all stride s [] n cur h in64 few = refl
-end_all stride s (fault f ∷ ss) n cur h in64 few = end_all stride s ss n cur h in64 few
-end_all stride s (item a ∷ ss) n cur h in64 few =
+end_all stride s (Err f ∷ ss) n cur h in64 few = end_all stride s ss n cur h in64 few
+end_all stride s (Ok a ∷ ss) n cur h in64 few =
     cond_both (ltb cur n) (slice_end None stride (Some n) (cur + 1) ss) (slice_end None stride (raised n stride) (counted (raised n stride) cur n) ss) (λ left. left ≡ [])
     (λ l. end_all stride s ss n (cur + 1) (omega (arith, ltb-true cur n l)) in64 (omega arith))
     (λ l.
@@ -290,11 +289,11 @@ draws_by_end arguments b e ss =
 -- an islice that has ended gives nothing and stays as it is
 pub over_gives : {A : Type 0} (stop : Option ℕ) (stride : ℕ) (next : Option ℕ) (cur : ℕ) (ss : List (Step A)) → over stop next cur ≡ true → slices stop stride next cur ss ≡ []
 over_gives stop stride next cur [] o = refl
-over_gives stop stride next cur (item a ∷ ss) o = cond-true _ _ _ o
-over_gives stop stride next cur (fault f ∷ ss) o = cond-true _ _ _ o
+over_gives stop stride next cur (Ok a ∷ ss) o = cond-true _ _ _ o
+over_gives stop stride next cur (Err f ∷ ss) o = cond-true _ _ _ o
 
 pub over_after : {A : Type 0} (stop : Option ℕ) (stride : ℕ) (next : Option ℕ) (cur : ℕ) (ss : List (Step A)) → over stop next cur ≡ true →
     slice_after stop stride next cur ss ≡ record { left = ss; next = next; cur = cur }
 over_after stop stride next cur [] o = refl
-over_after stop stride next cur (item a ∷ ss) o = cond-true _ _ _ o
-over_after stop stride next cur (fault f ∷ ss) o = cond-true _ _ _ o
+over_after stop stride next cur (Ok a ∷ ss) o = cond-true _ _ _ o
+over_after stop stride next cur (Err f ∷ ss) o = cond-true _ _ _ o

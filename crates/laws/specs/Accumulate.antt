@@ -2,29 +2,27 @@
 use Rattle.std.specs.Prelude.{◌≡◌, ℕ, ◌+◌, ◌<◌, List, [], ◌∷◌, map, length, take, Some, None, Ok, Err, Option, Result}
 use Rattle.std.specs.List.{slice_get}
 use Rattle.steps.specs.declared.fault.Fault.{Fault}
-use Rattle.steps.specs.declared.answer.Step.{Step}
-use Rattle.steps.specs.declared.answer.Step.TheVariants.{Item as item, Fault as fault}
-use Rattle.steps.specs.Steps.{rest}
+use Rattle.steps.specs.Steps.{Step, rest}
 
 -- a joining's fault replaces its item and leaves the total
 abbrev pub join_on : {A : Type 0} → Result A Fault → A → (A → List (Step A)) → List (Step A)
-join_on (Ok v) t more = item v ∷ more v
-join_on (Err f) t more = fault f ∷ more t
+join_on (Ok v) t more = Ok v ∷ more v
+join_on (Err f) t more = Err f ∷ more t
 
 abbrev pub totals : {A : Type 0} → (A → A → Result A Fault) → A → List (Step A) → List (Step A)
 totals j t [] = []
-totals j t (item a ∷ ss) = join_on (j t a) t (λ v. totals j v ss)
-totals j t (fault f ∷ ss) = fault f ∷ totals j t ss
+totals j t (Ok a ∷ ss) = join_on (j t a) t (λ v. totals j v ss)
+totals j t (Err f ∷ ss) = Err f ∷ totals j t ss
 
 -- without an initial value the first item is the first total
 abbrev pub from_first : {A : Type 0} → (A → A → Result A Fault) → List (Step A) → List (Step A)
 from_first j [] = []
-from_first j (item a ∷ ss) = item a ∷ totals j a ss
-from_first j (fault f ∷ ss) = fault f ∷ from_first j ss
+from_first j (Ok a ∷ ss) = Ok a ∷ totals j a ss
+from_first j (Err f ∷ ss) = Err f ∷ from_first j ss
 
 abbrev pub from_initial : {A : Type 0} → (A → A → Result A Fault) → Option A → List (Step A) → List (Step A)
 from_initial j None ss = from_first j ss
-from_initial j (Some i) ss = item i ∷ totals j i ss
+from_initial j (Some i) ss = Ok i ∷ totals j i ss
 
 -- what an accumulate has ahead, with its initial value and its total so far
 abbrev pub accumulates : {A : Type 0} → (A → A → Result A Fault) → Option A → Option A → List (Step A) → List (Step A)
@@ -47,14 +45,14 @@ join_total (Err f) t = t
 
 abbrev pub next_total : {A : Type 0} → (A → A → Result A Fault) → A → List (Step A) → A
 next_total j t [] = t
-next_total j t (item a ∷ ss) = join_total (j t a) t
-next_total j t (fault f ∷ ss) = t
+next_total j t (Ok a ∷ ss) = join_total (j t a) t
+next_total j t (Err f ∷ ss) = t
 
 abbrev pub first_total : {A : Type 0} → Option A → List (Step A) → Option A
 first_total (Some i) ss = Some i
 first_total None [] = None
-first_total None (item a ∷ ss) = Some a
-first_total None (fault f ∷ ss) = None
+first_total None (Ok a ∷ ss) = Some a
+first_total None (Err f ∷ ss) = None
 
 abbrev pub total_after : {A : Type 0} → (A → A → Result A Fault) → Option A → Option A → List (Step A) → Option A
 total_after j initial None ss = first_total initial ss
@@ -77,6 +75,6 @@ join_of j (x ∷ xs) = Some (joined_all j (Ok x) xs)
 
 -- Over a source without faults: there are as many totals as values, and the k-th is the join of the first k, where the joining has no fault on the way.
 pub record RunningTotals {A : Type 0} (j : A → A → Result A Fault) (initial : Option A) (ss gives : List (Step A)) : Type 0 where
-  pub each : (xs : List A) → ss ≡ map item xs → (k : ℕ) (v : A) → k < length (with_initial initial xs) →
-      join_of j (take (k + 1) (with_initial initial xs)) ≡ Some (Ok v) → slice_get gives k ≡ Some (item v)
-  pub count : (xs : List A) → ss ≡ map item xs → length gives ≡ length (with_initial initial xs)
+  pub each : (xs : List A) → ss ≡ map Ok xs → (k : ℕ) (v : A) → k < length (with_initial initial xs) →
+      join_of j (take (k + 1) (with_initial initial xs)) ≡ Some (Ok v) → slice_get gives k ≡ Some (Ok v)
+  pub count : (xs : List A) → ss ≡ map Ok xs → length gives ≡ length (with_initial initial xs)

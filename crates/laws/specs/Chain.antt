@@ -1,13 +1,12 @@
 -- chain of two: the steps of the first source, then those of the second, cut after the first fault.
-use Rattle.std.specs.Prelude.{◌≡◌, List, [], ◌∷◌, ◌++◌, map}
-use Rattle.steps.specs.declared.answer.Step.{Step}
-use Rattle.steps.specs.declared.answer.Step.TheVariants.{Item as item, Fault as fault}
+use Rattle.std.specs.Prelude.{◌≡◌, List, [], ◌∷◌, ◌++◌, map, Ok, Err}
+use Rattle.steps.specs.Steps.{Step}
 
 abbrev pub until_fault : {A : Type 0} → List (Step A) → List (Step A)
 until_fault [] = []
-until_fault (item a ∷ ss) = item a ∷ until_fault ss
-until_fault (fault f ∷ ss) = fault f ∷ []
+until_fault (Ok a ∷ ss) = Ok a ∷ until_fault ss
+until_fault (Err f ∷ ss) = Err f ∷ []
 
 -- Over two sources without faults: one list after the other.
 abbrev pub OneAfterOther : {A : Type 0} → List (Step A) → List (Step A) → List (Step A) → Type 0
-OneAfterOther {A} ss ts gives = (xs ys : List A) → ss ≡ map item xs → ts ≡ map item ys → gives ≡ map item (xs ++ ys)
+OneAfterOther {A} ss ts gives = (xs ys : List A) → ss ≡ map Ok xs → ts ≡ map Ok ys → gives ≡ map Ok (xs ++ ys)

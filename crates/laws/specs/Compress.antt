@@ -1,24 +1,23 @@
 -- compress: the data whose selectors a predicate accepts.
 use Rattle.std.specs.Prelude.{◌≡◌, ℕ, zero, suc, ◌+◌, Bool, true, false, cond, List, [], ◌∷◌, map, length, drop, Some, Ok, Err, Result}
+use Rattle.steps.specs.Steps.{Step}
 use Rattle.std.specs.List.{slice_get}
 use Rattle.steps.specs.declared.fault.Fault.{Fault}
-use Rattle.steps.specs.declared.answer.Step.{Step}
-use Rattle.steps.specs.declared.answer.Step.TheVariants.{Item as item, Fault as fault}
 use Rattle.laws.specs.Items.{Decided}
 
 -- a selector that is denied loses its datum, and so does a predicate's fault, which takes the pair's place
 abbrev pub keep_on : {A : Type 0} → Result Bool Fault → A → List (Step A) → List (Step A)
-keep_on (Ok true) a more = item a ∷ more
+keep_on (Ok true) a more = Ok a ∷ more
 keep_on (Ok false) a more = more
-keep_on (Err f) a more = fault f ∷ more
+keep_on (Err f) a more = Err f ∷ more
 
 -- a data fault draws no selector, a selector's fault loses the datum
 abbrev pub compressed : {A B : Type 0} → (B → Result Bool Fault) → List (Step A) → List (Step B) → List (Step A)
 compressed p [] ts = []
-compressed p (fault f ∷ ds) ts = fault f ∷ compressed p ds ts
-compressed p (item a ∷ ds) [] = []
-compressed p (item a ∷ ds) (fault f ∷ ts) = fault f ∷ compressed p ds ts
-compressed p (item a ∷ ds) (item b ∷ ts) = keep_on (p b) a (compressed p ds ts)
+compressed p (Err f ∷ ds) ts = Err f ∷ compressed p ds ts
+compressed p (Ok a ∷ ds) [] = []
+compressed p (Ok a ∷ ds) (Err f ∷ ts) = Err f ∷ compressed p ds ts
+compressed p (Ok a ∷ ds) (Ok b ∷ ts) = keep_on (p b) a (compressed p ds ts)
 
 -- what a compress has ahead: nothing after its first end
 abbrev pub compresses : {A B : Type 0} → (B → Result Bool Fault) → Bool → List (Step A) → List (Step B) → List (Step A)
@@ -37,10 +36,10 @@ compress_go (Err f) ds ts more = record { data_left = ds; selectors_left = ts; e
 
 abbrev pub compressing : {A B : Type 0} → (B → Result Bool Fault) → List (Step A) → List (Step B) → CompressAfter A B
 compressing p [] ts = record { data_left = []; selectors_left = ts; ended = true }
-compressing p (fault f ∷ ds) ts = record { data_left = ds; selectors_left = ts; ended = false }
-compressing p (item a ∷ ds) [] = record { data_left = ds; selectors_left = []; ended = true }
-compressing p (item a ∷ ds) (fault f ∷ ts) = record { data_left = ds; selectors_left = ts; ended = false }
-compressing p (item a ∷ ds) (item b ∷ ts) = compress_go (p b) ds ts (compressing p ds ts)
+compressing p (Err f ∷ ds) ts = record { data_left = ds; selectors_left = ts; ended = false }
+compressing p (Ok a ∷ ds) [] = record { data_left = ds; selectors_left = []; ended = true }
+compressing p (Ok a ∷ ds) (Err f ∷ ts) = record { data_left = ds; selectors_left = ts; ended = false }
+compressing p (Ok a ∷ ds) (Ok b ∷ ts) = compress_go (p b) ds ts (compressing p ds ts)
 
 abbrev pub compress_after : {A B : Type 0} → (B → Result Bool Fault) → Bool → List (Step A) → List (Step B) → CompressAfter A B
 compress_after p ended ds ts = cond ended (record { data_left = ds; selectors_left = ts; ended = true }) (compressing p ds ts)
@@ -53,9 +52,9 @@ pub record CompressLeft (A B : Type 0) : Type 0 where
 
 abbrev pub compress_end : {A B : Type 0} → List (Step A) → List (Step B) → CompressLeft A B
 compress_end [] ts = record { data_left = []; selectors_left = ts }
-compress_end (fault f ∷ ds) ts = compress_end ds ts
-compress_end (item a ∷ ds) [] = record { data_left = ds; selectors_left = [] }
-compress_end (item a ∷ ds) (s ∷ ts) = compress_end ds ts
+compress_end (Err f ∷ ds) ts = compress_end ds ts
+compress_end (Ok a ∷ ds) [] = record { data_left = ds; selectors_left = [] }
+compress_end (Ok a ∷ ds) (s ∷ ts) = compress_end ds ts
 
 abbrev pub compress_ends : {A B : Type 0} → Bool → List (Step A) → List (Step B) → CompressLeft A B
 compress_ends ended ds ts = cond ended (record { data_left = ds; selectors_left = ts }) (compress_end ds ts)
@@ -74,11 +73,11 @@ accepted p (suc k) (b ∷ bs) = one_if (p b) + accepted p k bs
 -- Over sources without faults and a predicate that answers yes or no: the datum at k whose selector is
 -- accepted is given, behind the data kept before it; and as many are given as selectors with a datum are accepted.
 pub record KeepsAccepted {A B : Type 0} (p : B → Result Bool Fault) (ds : List (Step A)) (ts : List (Step B)) (gives : List (Step A)) : Type 0 where
-  pub each : (xs : List A) (bs : List B) → ds ≡ map item xs → ts ≡ map item bs → Decided p bs → (k : ℕ) (a : A) (b : B) →
-      slice_get xs k ≡ Some a → slice_get bs k ≡ Some b → p b ≡ Ok true → slice_get gives (accepted p k bs) ≡ Some (item a)
-  pub count : (xs : List A) (bs : List B) → ds ≡ map item xs → ts ≡ map item bs → Decided p bs → length gives ≡ accepted p (length xs) bs
+  pub each : (xs : List A) (bs : List B) → ds ≡ map Ok xs → ts ≡ map Ok bs → Decided p bs → (k : ℕ) (a : A) (b : B) →
+      slice_get xs k ≡ Some a → slice_get bs k ≡ Some b → p b ≡ Ok true → slice_get gives (accepted p k bs) ≡ Some (Ok a)
+  pub count : (xs : List A) (bs : List B) → ds ≡ map Ok xs → ts ≡ map Ok bs → Decided p bs → length gives ≡ accepted p (length xs) bs
 
 -- Over sources without faults: by its end it has drawn one datum more than there are selectors, or all, and as many selectors as data.
 abbrev pub CompressDraws : {A B : Type 0} → List (Step A) → List (Step B) → List (Step A) → List (Step B) → Type 0
-CompressDraws {A} {B} ds ts ds' ts' = (xs : List A) (bs : List B) → ds ≡ map item xs → ts ≡ map item bs →
-    (ds' ≡ map item (drop (length bs + 1) xs)) × (ts' ≡ map item (drop (length xs) bs))
+CompressDraws {A} {B} ds ts ds' ts' = (xs : List A) (bs : List B) → ds ≡ map Ok xs → ts ≡ map Ok bs →
+    (ds' ≡ map Ok (drop (length bs + 1) xs)) × (ts' ≡ map Ok (drop (length xs) bs))

@@ -1,9 +1,8 @@
 -- islice: the items at start, start + step and so on below stop, counted from 0.
-use Rattle.std.specs.Prelude.{◌≡◌, ℕ, ◌+◌, ◌*◌, ◌^◌, ◌≤◌, Bool, true, false, cond, ◌&&◌, List, [], ◌∷◌, map, length, Some, None, Option, nat_le, nat_lt}
+use Rattle.std.specs.Prelude.{◌≡◌, ℕ, ◌+◌, ◌*◌, ◌^◌, ◌≤◌, Bool, true, false, cond, ◌&&◌, List, [], ◌∷◌, map, length, Some, None, Option, nat_le, nat_lt, Ok, Err}
+use Rattle.steps.specs.Steps.{Step}
 use Rattle.std.specs.List.{slice_get}
 use Rattle.steps.specs.declared.fault.Fault.{Fault}
-use Rattle.steps.specs.declared.answer.Step.{Step}
-use Rattle.steps.specs.declared.answer.Step.TheVariants.{Item as item, Fault as fault}
 use Rattle.laws.specs.Items.{given, items, past, first_fault}
 
 -- the largest number that an argument may be, 2^63 - 1
@@ -71,12 +70,12 @@ counted (Some m) cur n = n + 1
 -- what an islice has ahead, with cur items drawn and the number of the next item to give
 abbrev pub slices : {A : Type 0} → Option ℕ → ℕ → Option ℕ → ℕ → List (Step A) → List (Step A)
 slices stop stride next cur [] = []
-slices stop stride next cur (fault f ∷ ss) = cond (over stop next cur) [] (fault f ∷ slices stop stride next cur ss)
-slices stop stride next cur (item a ∷ ss) =
+slices stop stride next cur (Err f ∷ ss) = cond (over stop next cur) [] (Err f ∷ slices stop stride next cur ss)
+slices stop stride next cur (Ok a ∷ ss) =
     cond (over stop next cur) []
     (cond (nat_lt cur (number next))
     (slices stop stride next (cur + 1) ss)
-    (item a ∷ slices stop stride (raised (number next) stride) (counted (raised (number next) stride) cur (number next)) ss))
+    (Ok a ∷ slices stop stride (raised (number next) stride) (counted (raised (number next) stride) cur (number next)) ss))
 
 -- where a call leaves the source and the two counts
 pub record SliceAfter (A : Type 0) : Type 0 where
@@ -86,10 +85,10 @@ pub record SliceAfter (A : Type 0) : Type 0 where
 
 abbrev pub slice_after : {A : Type 0} → Option ℕ → ℕ → Option ℕ → ℕ → List (Step A) → SliceAfter A
 slice_after stop stride next cur [] = record { left = []; next = next; cur = cur }
-slice_after stop stride next cur (fault f ∷ ss) =
-    cond (over stop next cur) (record { left = fault f ∷ ss; next = next; cur = cur }) (record { left = ss; next = next; cur = cur })
-slice_after stop stride next cur (item a ∷ ss) =
-    cond (over stop next cur) (record { left = item a ∷ ss; next = next; cur = cur })
+slice_after stop stride next cur (Err f ∷ ss) =
+    cond (over stop next cur) (record { left = Err f ∷ ss; next = next; cur = cur }) (record { left = ss; next = next; cur = cur })
+slice_after stop stride next cur (Ok a ∷ ss) =
+    cond (over stop next cur) (record { left = Ok a ∷ ss; next = next; cur = cur })
     (cond (nat_lt cur (number next))
     (slice_after stop stride next (cur + 1) ss)
     (record { left = ss; next = raised (number next) stride; cur = counted (raised (number next) stride) cur (number next) }))
@@ -97,9 +96,9 @@ slice_after stop stride next cur (item a ∷ ss) =
 -- what the source has left once the islice has said end
 abbrev pub slice_end : {A : Type 0} → Option ℕ → ℕ → Option ℕ → ℕ → List (Step A) → List (Step A)
 slice_end stop stride next cur [] = []
-slice_end stop stride next cur (fault f ∷ ss) = cond (over stop next cur) (fault f ∷ ss) (slice_end stop stride next cur ss)
-slice_end stop stride next cur (item a ∷ ss) =
-    cond (over stop next cur) (item a ∷ ss)
+slice_end stop stride next cur (Err f ∷ ss) = cond (over stop next cur) (Err f ∷ ss) (slice_end stop stride next cur ss)
+slice_end stop stride next cur (Ok a ∷ ss) =
+    cond (over stop next cur) (Ok a ∷ ss)
     (cond (nat_lt cur (number next))
     (slice_end stop stride next (cur + 1) ss)
     (slice_end stop stride (raised (number next) stride) (counted (raised (number next) stride) cur (number next)) ss))
@@ -110,7 +109,7 @@ below_stop None n = nat_lt n (2 ^ 64)
 below_stop (Some stop) n = nat_lt n stop
 
 abbrev pub EveryStep : {A : Type 0} → Bounds → List (Step A) → List (Step A) → Type 0
-EveryStep {A} b ss gives = (xs : List A) → ss ≡ map item xs → (k : ℕ) →
+EveryStep {A} b ss gives = (xs : List A) → ss ≡ map Ok xs → (k : ℕ) →
     slice_get gives k ≡ cond (below_stop b.stop (b.start + k * b.stride)) (given (slice_get xs (b.start + k * b.stride))) None
 
 -- By its end it has drawn the first max(start, stop) items, with the faults in front of them, or all

@@ -1,32 +1,31 @@
 -- Words that the laws of the adapters share.
 use Rattle.std.specs.Prelude.{◌≡◌, ℕ, zero, suc, Bool, true, false, ◌⊎◌, List, [], ◌∷◌, Some, None, Ok, Err, Option, Result}
+use Rattle.steps.specs.Steps.{Step}
 use Rattle.steps.specs.declared.fault.Fault.{Fault}
 use Rattle.steps.specs.declared.answer.Answer.{Answer}
-use Rattle.steps.specs.declared.answer.Step.{Step}
-use Rattle.steps.specs.declared.answer.Step.TheVariants.{Item as item, Fault as fault}
 
 -- the step that gives an item, where there is one
 abbrev pub given : {A : Type 0} → Option A → Option (Step A)
 given None = None
-given (Some a) = Some (item a)
+given (Some a) = Some (Ok a)
 
 -- the items of a list of steps, in order
 abbrev pub items : {A : Type 0} → List (Step A) → List A
 items [] = []
-items (item a ∷ ss) = a ∷ items ss
-items (fault f ∷ ss) = items ss
+items (Ok a ∷ ss) = a ∷ items ss
+items (Err f ∷ ss) = items ss
 
 -- its faults, in order
 abbrev pub faults : {A : Type 0} → List (Step A) → List Fault
 faults [] = []
-faults (item a ∷ ss) = faults ss
-faults (fault f ∷ ss) = f ∷ faults ss
+faults (Ok a ∷ ss) = faults ss
+faults (Err f ∷ ss) = f ∷ faults ss
 
 -- its first fault
 abbrev pub first_fault : {A : Type 0} → List (Step A) → Option Fault
 first_fault [] = None
-first_fault (item a ∷ ss) = first_fault ss
-first_fault (fault f ∷ ss) = Some f
+first_fault (Ok a ∷ ss) = first_fault ss
+first_fault (Err f ∷ ss) = Some f
 
 -- the earlier of two faults
 abbrev pub earlier : Option Fault → Option Fault → Option Fault
@@ -42,8 +41,8 @@ kept_first met (Err f) = earlier met (Some f)
 abbrev pub past : {A : Type 0} → ℕ → List (Step A) → List (Step A)
 past zero ss = ss
 past (suc n) [] = []
-past (suc n) (item a ∷ ss) = past n ss
-past (suc n) (fault f ∷ ss) = past (suc n) ss
+past (suc n) (Ok a ∷ ss) = past n ss
+past (suc n) (Err f ∷ ss) = past (suc n) ss
 
 -- each of a list is accepted by a predicate
 abbrev pub Accepted : {A : Type 0} → (A → Result Bool Fault) → List A → Type 0

@@ -1,23 +1,21 @@
 -- pairwise: each item with the one before it.
-use Rattle.std.specs.Prelude.{◌≡◌, ℕ, ◌+◌, List, [], ◌∷◌, map, Some, None, Option}
+use Rattle.std.specs.Prelude.{◌≡◌, ℕ, ◌+◌, List, [], ◌∷◌, map, Some, None, Option, Ok, Err}
 use Rattle.std.specs.List.{slice_get}
-use Rattle.steps.specs.declared.answer.Step.{Step}
-use Rattle.steps.specs.declared.answer.Step.TheVariants.{Item as item, Fault as fault}
-use Rattle.steps.specs.Steps.{rest}
+use Rattle.steps.specs.Steps.{Step, rest}
 
 -- after the item that came last
 abbrev pub paired : {A : Type 0} → A → List (Step A) → List (Step (A × A))
 paired old [] = []
-paired old (item a ∷ ss) = item (old, a) ∷ paired a ss
-paired old (fault f ∷ ss) = fault f ∷ paired old ss
+paired old (Ok a ∷ ss) = Ok (old, a) ∷ paired a ss
+paired old (Err f ∷ ss) = Err f ∷ paired old ss
 
 -- before the first pair: a call draws two items, and a fault at the second loses the first
 abbrev pub unpaired : {A : Type 0} → List (Step A) → List (Step (A × A))
 unpaired [] = []
-unpaired (fault f ∷ ss) = fault f ∷ unpaired ss
-unpaired (item a ∷ []) = []
-unpaired (item a ∷ (fault f ∷ ss)) = fault f ∷ unpaired ss
-unpaired (item a ∷ (item b ∷ ss)) = item (a, b) ∷ paired b ss
+unpaired (Err f ∷ ss) = Err f ∷ unpaired ss
+unpaired (Ok a ∷ []) = []
+unpaired (Ok a ∷ (Err f ∷ ss)) = Err f ∷ unpaired ss
+unpaired (Ok a ∷ (Ok b ∷ ss)) = Ok (a, b) ∷ paired b ss
 
 -- what a pairwise has ahead, with the item that it keeps for the next pair
 abbrev pub pairs : {A : Type 0} → Option A → List (Step A) → List (Step (A × A))
@@ -27,8 +25,8 @@ pairs (Some old) ss = paired old ss
 -- what a call leaves of the source
 abbrev pub unpaired_left : {A : Type 0} → List (Step A) → List (Step A)
 unpaired_left [] = []
-unpaired_left (fault f ∷ ss) = ss
-unpaired_left (item a ∷ ss) = rest ss
+unpaired_left (Err f ∷ ss) = ss
+unpaired_left (Ok a ∷ ss) = rest ss
 
 abbrev pub pairs_left : {A : Type 0} → Option A → List (Step A) → List (Step A)
 pairs_left None ss = unpaired_left ss
@@ -37,13 +35,13 @@ pairs_left (Some old) ss = rest ss
 -- the item that is kept for the next pair, after a call
 abbrev pub next_old : {A : Type 0} → Option A → List (Step A) → Option A
 next_old old [] = old
-next_old old (item a ∷ ss) = Some a
-next_old old (fault f ∷ ss) = old
+next_old old (Ok a ∷ ss) = Some a
+next_old old (Err f ∷ ss) = old
 
 abbrev pub first_old : {A : Type 0} → List (Step A) → Option A
 first_old [] = None
-first_old (fault f ∷ ss) = None
-first_old (item a ∷ ss) = next_old None ss
+first_old (Err f ∷ ss) = None
+first_old (Ok a ∷ ss) = next_old None ss
 
 abbrev pub pairs_old : {A : Type 0} → Option A → List (Step A) → Option A
 pairs_old None ss = first_old ss
@@ -53,7 +51,7 @@ pairs_old (Some old) ss = next_old (Some old) ss
 abbrev pub pair_of : {A : Type 0} → Option A → Option A → Option (Step (A × A))
 pair_of None o = None
 pair_of (Some a) None = None
-pair_of (Some a) (Some b) = Some (item (a, b))
+pair_of (Some a) (Some b) = Some (Ok (a, b))
 
 abbrev pub Neighbours : {A : Type 0} → List (Step A) → List (Step (A × A)) → Type 0
-Neighbours {A} ss gives = (xs : List A) → ss ≡ map item xs → (k : ℕ) → slice_get gives k ≡ pair_of (slice_get xs k) (slice_get xs (k + 1))
+Neighbours {A} ss gives = (xs : List A) → ss ≡ map Ok xs → (k : ℕ) → slice_get gives k ≡ pair_of (slice_get xs k) (slice_get xs (k + 1))

@@ -1,36 +1,34 @@
 -- zip_longest of two: pairs until both sources have ended, with a fill for the one that ended first.
-use Rattle.std.specs.Prelude.{◌≡◌, ℕ, List, [], ◌∷◌, map, Some, None, Option}
+use Rattle.std.specs.Prelude.{◌≡◌, ℕ, List, [], ◌∷◌, map, Some, None, Option, Ok, Err}
 use Rattle.std.specs.List.{slice_get}
-use Rattle.steps.specs.declared.answer.Step.{Step}
-use Rattle.steps.specs.declared.answer.Step.TheVariants.{Item as item, Fault as fault}
-use Rattle.steps.specs.Steps.{rest}
+use Rattle.steps.specs.Steps.{Step, rest}
 
 -- once the left has ended
 abbrev pub filled : {A B : Type 0} → A → List (Step B) → List (Step (A × B))
 filled fill [] = []
-filled fill (item b ∷ ts) = item (fill, b) ∷ filled fill ts
-filled fill (fault f ∷ ts) = fault f ∷ filled fill ts
+filled fill (Ok b ∷ ts) = Ok (fill, b) ∷ filled fill ts
+filled fill (Err f ∷ ts) = Err f ∷ filled fill ts
 
 -- a left fault draws nothing on the right; a right fault loses the left item
 abbrev pub zipped : {A B : Type 0} → A → B → List (Step A) → List (Step B) → List (Step (A × B))
 zipped l r [] ts = filled l ts
-zipped l r (fault f ∷ ss) ts = fault f ∷ zipped l r ss ts
-zipped l r (item a ∷ ss) [] = item (a, r) ∷ zipped l r ss []
-zipped l r (item a ∷ ss) (item b ∷ ts) = item (a, b) ∷ zipped l r ss ts
-zipped l r (item a ∷ ss) (fault f ∷ ts) = fault f ∷ zipped l r ss ts
+zipped l r (Err f ∷ ss) ts = Err f ∷ zipped l r ss ts
+zipped l r (Ok a ∷ ss) [] = Ok (a, r) ∷ zipped l r ss []
+zipped l r (Ok a ∷ ss) (Ok b ∷ ts) = Ok (a, b) ∷ zipped l r ss ts
+zipped l r (Ok a ∷ ss) (Err f ∷ ts) = Err f ∷ zipped l r ss ts
 
 -- what a call leaves of the right source
 abbrev pub right_left : {A B : Type 0} → List (Step A) → List (Step B) → List (Step B)
 right_left [] ts = rest ts
-right_left (item a ∷ ss) ts = rest ts
-right_left (fault f ∷ ss) ts = ts
+right_left (Ok a ∷ ss) ts = rest ts
+right_left (Err f ∷ ss) ts = ts
 
 -- Over two sources without faults: the k-th pair has the k-th item of each, or its side's fill, as long as one of them has a k-th item.
 abbrev pub wide : {A B : Type 0} → A → B → Option A → Option B → Option (Step (A × B))
 wide l r None None = None
-wide l r (Some a) None = Some (item (a, r))
-wide l r None (Some b) = Some (item (l, b))
-wide l r (Some a) (Some b) = Some (item (a, b))
+wide l r (Some a) None = Some (Ok (a, r))
+wide l r None (Some b) = Some (Ok (l, b))
+wide l r (Some a) (Some b) = Some (Ok (a, b))
 
 abbrev pub LongestZip : {A B : Type 0} → A → B → List (Step A) → List (Step B) → List (Step (A × B)) → Type 0
-LongestZip {A} {B} l r ss ts gives = (xs : List A) (ys : List B) → ss ≡ map item xs → ts ≡ map item ys → (k : ℕ) → slice_get gives k ≡ wide l r (slice_get xs k) (slice_get ys k)
+LongestZip {A} {B} l r ss ts gives = (xs : List A) (ys : List B) → ss ≡ map Ok xs → ts ≡ map Ok ys → (k : ℕ) → slice_get gives k ≡ wide l r (slice_get xs k) (slice_get ys k)

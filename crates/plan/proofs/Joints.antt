@@ -1,10 +1,9 @@
 -- Pairwise over a list of blocks, as joints; and a loop's step over them.
-use Rattle.std.proofs.Common.{◌≡◌, ℕ, zero, suc, ◌+◌, ◌<◌, List, [], ◌∷◌, ◌++◌, map, length, get_or, drop, sym, refl, ap, ◌∙◌, add-one, arith}
+use Rattle.std.proofs.Common.{◌≡◌, ℕ, zero, suc, ◌+◌, ◌<◌, List, [], ◌∷◌, ◌++◌, map, length, get_or, drop, sym, refl, ap, ◌∙◌, add-one, arith, Ok, Err}
+use Rattle.steps.specs.Steps.{Step}
 use Rattle.std.specs.List.{slice_get}
 use Rattle.std.proofs.lemmas.List.{append_assoc, at_drop_more}
 use Rattle.steps.specs.declared.fault.Fault.{Fault}
-use Rattle.steps.specs.declared.answer.Step.{Step}
-use Rattle.steps.specs.declared.answer.Step.TheVariants.{Item as item, Fault as fault}
 use Rattle.laws.specs.Items.{items, faults}
 use Rattle.laws.specs.Pairwise.{paired, unpaired}
 use Rattle.sources.specs.declared.block.Block.{Block}
@@ -12,11 +11,11 @@ use Rattle.plan.specs.declared.seam.Joint.{Joint}
 use Rattle.plan.specs.declared.seam.Finding.{Finding}
 use Rattle.plan.specs.Seams.{joint_of, joints, joint_at, is_finding, one_if, count}
 
-paired_joints : (a : Block) (bs : List Block) → map joint_of (items (paired a (map item bs))) ≡ joints (a ∷ bs)
+paired_joints : (a : Block) (bs : List Block) → map joint_of (items (paired a (map Ok bs))) ≡ joints (a ∷ bs)
 paired_joints a [] = refl
 paired_joints a (b ∷ bs) = ap (λ js. joint_of (a, b) ∷ js) (paired_joints b bs)
 
-pub laid_out : (bs : List Block) → map joint_of (items (unpaired (map item bs))) ≡ joints bs
+pub laid_out : (bs : List Block) → map joint_of (items (unpaired (map Ok bs))) ≡ joints bs
 laid_out [] = refl
 laid_out (a ∷ []) = refl
 laid_out (a ∷ (b ∷ bs)) = ap (λ js. joint_of (a, b) ∷ js) (paired_joints b bs)
@@ -39,22 +38,22 @@ count_more f js i n total d lt e =
     omega (arith, s, e)
 
 -- one step further in a split
-pub item_more : {A : Type 0} (whole got : List A) (ss : List (Step A)) (i : ℕ) (d : Step A) (a : A) → i < length ss → d ≡ get_or ss i d → d ≡ item a → got ++ items (drop i ss) ≡ whole → (got ++ a ∷ []) ++ items (drop (i + 1) ss) ≡ whole
+pub item_more : {A : Type 0} (whole got : List A) (ss : List (Step A)) (i : ℕ) (d : Step A) (a : A) → i < length ss → d ≡ get_or ss i d → d ≡ Ok a → got ++ items (drop i ss) ≡ whole → (got ++ a ∷ []) ++ items (drop (i + 1) ss) ≡ whole
 item_more whole got ss i d a lt is g e =
     let s = at_drop_more items ss i d lt ∙ ap (λ t. items (t ∷ drop (i + 1) ss)) (sym is ∙ g) in
     append_assoc got (a ∷ []) (items (drop (i + 1) ss)) ∙ ap (λ us. got ++ us) (sym s) ∙ e
 
-pub item_skips : {A : Type 0} (whole got : List Fault) (ss : List (Step A)) (i : ℕ) (d : Step A) (a : A) → i < length ss → d ≡ get_or ss i d → d ≡ item a → got ++ faults (drop i ss) ≡ whole → got ++ faults (drop (i + 1) ss) ≡ whole
+pub item_skips : {A : Type 0} (whole got : List Fault) (ss : List (Step A)) (i : ℕ) (d : Step A) (a : A) → i < length ss → d ≡ get_or ss i d → d ≡ Ok a → got ++ faults (drop i ss) ≡ whole → got ++ faults (drop (i + 1) ss) ≡ whole
 item_skips whole got ss i d a lt is g e =
     let s = at_drop_more faults ss i d lt ∙ ap (λ t. faults (t ∷ drop (i + 1) ss)) (sym is ∙ g) in
     ap (λ us. got ++ us) (sym s) ∙ e
 
-pub fault_more : {A : Type 0} (whole got : List Fault) (ss : List (Step A)) (i : ℕ) (d : Step A) (f : Fault) → i < length ss → d ≡ get_or ss i d → d ≡ fault f → got ++ faults (drop i ss) ≡ whole → (got ++ f ∷ []) ++ faults (drop (i + 1) ss) ≡ whole
+pub fault_more : {A : Type 0} (whole got : List Fault) (ss : List (Step A)) (i : ℕ) (d : Step A) (f : Fault) → i < length ss → d ≡ get_or ss i d → d ≡ Err f → got ++ faults (drop i ss) ≡ whole → (got ++ f ∷ []) ++ faults (drop (i + 1) ss) ≡ whole
 fault_more whole got ss i d f lt is g e =
     let s = at_drop_more faults ss i d lt ∙ ap (λ t. faults (t ∷ drop (i + 1) ss)) (sym is ∙ g) in
     append_assoc got (f ∷ []) (faults (drop (i + 1) ss)) ∙ ap (λ us. got ++ us) (sym s) ∙ e
 
-pub fault_skips : {A : Type 0} (whole got : List A) (ss : List (Step A)) (i : ℕ) (d : Step A) (f : Fault) → i < length ss → d ≡ get_or ss i d → d ≡ fault f → got ++ items (drop i ss) ≡ whole → got ++ items (drop (i + 1) ss) ≡ whole
+pub fault_skips : {A : Type 0} (whole got : List A) (ss : List (Step A)) (i : ℕ) (d : Step A) (f : Fault) → i < length ss → d ≡ get_or ss i d → d ≡ Err f → got ++ items (drop i ss) ≡ whole → got ++ items (drop (i + 1) ss) ≡ whole
 fault_skips whole got ss i d f lt is g e =
     let s = at_drop_more items ss i d lt ∙ ap (λ t. items (t ∷ drop (i + 1) ss)) (sym is ∙ g) in
     ap (λ us. got ++ us) (sym s) ∙ e

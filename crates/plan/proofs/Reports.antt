@@ -1,7 +1,7 @@
 -- The report, from its parts.
 use Rattle.std.proofs.Common.{◌≡◌, ℕ, true, false, List, ◌++◌, length, codes, ap, ◌∙◌, ⊎_elim}
+use Rattle.steps.specs.Steps.{Step}
 use Rattle.steps.specs.declared.fault.Fault.{Fault}
-use Rattle.steps.specs.declared.answer.Step.{Step}
 use Rattle.laws.specs.Items.{items, faults}
 use Rattle.sources.specs.declared.block.Block.{Block}
 use Rattle.plan.specs.declared.seam.Joint.{Joint}

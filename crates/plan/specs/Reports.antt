@@ -1,6 +1,6 @@
 -- All that the plan checker says of a plan: its account, and the verdict.
 use Rattle.std.specs.Prelude.{◌≡◌, ℕ, List, [], ◌++◌, length, codes}
-use Rattle.steps.specs.declared.answer.Step.{Step}
+use Rattle.steps.specs.Steps.{Step}
 use Rattle.laws.specs.Items.{items, faults}
 use Rattle.sources.specs.declared.block.Block.{Block}
 use Rattle.plan.specs.declared.seam.Finding.TheVariants.{Pair}

@@ -15,8 +15,8 @@ pub fn split_steps<T: Copy>(
     let mut faults = Vec::new(heap);
     for step in steps {
         match *step {
-            Step::Item(item) => items.push(item)?,
-            Step::Fault(fault) => faults.push(fault)?,
+            Ok(item) => items.push(item)?,
+            Err(fault) => faults.push(fault)?,
         }
     }
     Ok((items, faults))

@@ -1,27 +1,25 @@
 -- One turn of a run: the line of an answer moves from what is to be written to what is written.
-use Rattle.std.proofs.Common.{◌≡◌, ℕ, ◌+◌, ◌-◌, ◌<◌, ◌≤◌, true, false, List, [], ◌∷◌, ◌++◌, length, get_or, drop, sym, refl, ap, ◌∙◌, append_assoc, append-nil, add-one, arith, drop_of_length-le, drop-cons}
-use Rattle.steps.specs.declared.answer.Step.{Step}
-use Rattle.steps.specs.declared.answer.Step.TheVariants.{Item as item, Fault as fault}
-use Rattle.steps.specs.Steps.{first, rest}
+use Rattle.std.proofs.Common.{◌≡◌, ℕ, ◌+◌, ◌-◌, ◌<◌, ◌≤◌, true, false, List, [], ◌∷◌, ◌++◌, length, get_or, drop, sym, refl, ap, ◌∙◌, append_assoc, append-nil, add-one, arith, drop_of_length-le, drop-cons, Ok, Err}
+use Rattle.steps.specs.Steps.{Step, first, rest}
 use Rattle.replay.specs.Lines.{answer_line, says_end, end_lines, transcript, each}
 
 -- after an end nothing is ahead
 pub end_last : {A : Type 0} (ss : List (Step A)) → says_end (first ss) ≡ true → rest ss ≡ []
 end_last [] e = refl
-end_last (item a ∷ ss) e = let z : ◌≡◌ {A = ℕ} 0 1 = cc in absurd (omega arith)
-end_last (fault f ∷ ss) e = let z : ◌≡◌ {A = ℕ} 0 1 = cc in absurd (omega arith)
+end_last (Ok a ∷ ss) e = let z : ◌≡◌ {A = ℕ} 0 1 = cc in absurd (omega arith)
+end_last (Err f ∷ ss) e = let z : ◌≡◌ {A = ℕ} 0 1 = cc in absurd (omega arith)
 
 step_told : {A : Type 0} (line : A → List ℕ) (n : ℕ) (ss : List (Step A)) → says_end (first ss) ≡ false → transcript line n ss ≡ answer_line line (first ss) ++ transcript line n (rest ss)
 step_told line n [] e = let z : ◌≡◌ {A = ℕ} 0 1 = cc in absurd (omega arith)
-step_told line n (item a ∷ ss) e = refl
-step_told line n (fault f ∷ ss) e = refl
+step_told line n (Ok a ∷ ss) e = refl
+step_told line n (Err f ∷ ss) e = refl
 
 end_told : {A : Type 0} (line : A → List ℕ) (ends : ℕ) (ss : List (Step A)) → ends < 3 → says_end (first ss) ≡ true → transcript line (3 - ends) ss ≡ answer_line line (first ss) ++ transcript line (3 - (ends + 1)) (rest ss)
 end_told line ends [] few e =
     let more : 3 - ends ≡ 3 - (ends + 1) + 1 = omega arith in
     ap end_lines (more ∙ add-one (3 - (ends + 1)))
-end_told line ends (item a ∷ ss) few e = let z : ◌≡◌ {A = ℕ} 0 1 = cc in absurd (omega arith)
-end_told line ends (fault f ∷ ss) few e = let z : ◌≡◌ {A = ℕ} 0 1 = cc in absurd (omega arith)
+end_told line ends (Ok a ∷ ss) few e = let z : ◌≡◌ {A = ℕ} 0 1 = cc in absurd (omega arith)
+end_told line ends (Err f ∷ ss) few e = let z : ◌≡◌ {A = ℕ} 0 1 = cc in absurd (omega arith)
 
 moved : (old line before after new whole : List ℕ) → before ≡ line ++ after → new ≡ old ++ line → old ++ before ≡ whole → new ++ after ≡ whole
 moved old line before after new whole told shown h =

@@ -1,9 +1,8 @@
 -- The lines that answers are written as.
 use Rattle.std.specs.Prelude.{ℕ, zero, suc, Bool, true, false, List, [], ◌∷◌, ◌++◌, Some, None, Ok, Err, vec_items, codes, decimal, Option, Result}
+use Rattle.steps.specs.Steps.{Step}
 use Rattle.steps.specs.declared.answer.Answer.{Answer}
 use Rattle.steps.specs.declared.answer.Answer.TheVariants.{Item as answer_item, End}
-use Rattle.steps.specs.declared.answer.Step.{Step}
-use Rattle.steps.specs.declared.answer.Step.TheVariants.{Item as item, Fault as fault}
 use Rattle.steps.specs.declared.fault.Fault.{Fault}
 use Rattle.steps.specs.declared.refusal.Refusal.{Refusal}
 use Rattle.steps.specs.Refusals.{refusal_number}
@@ -73,5 +72,5 @@ end_lines (suc n) = end_line ++ end_lines n
 -- a line for each step ahead and then the ends, n of them
 abbrev pub transcript : {A : Type 0} → (A → List ℕ) → ℕ → List (Step A) → List ℕ
 transcript line n [] = end_lines n
-transcript line n (item a ∷ ss) = line a ++ transcript line n ss
-transcript line n (fault f ∷ ss) = fault_line f ++ transcript line n ss
+transcript line n (Ok a ∷ ss) = line a ++ transcript line n ss
+transcript line n (Err f ∷ ss) = fault_line f ++ transcript line n ss

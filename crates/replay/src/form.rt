@@ -105,8 +105,8 @@ pub fn steps(heap: Global, part: &str) -> Result<Vec<Step<u64>>, Flaw> {
 // An item is a number, a fault three numbers after `!`.
 fn step(word: &str) -> Result<Step<u64>, Flaw> {
     match word.strip_prefix('!') {
-        Some(numbers) => Ok(Step::Fault(fault(numbers)?)),
-        None => Ok(Step::Item(number(word)?)),
+        Some(numbers) => Ok(Err(fault(numbers)?)),
+        None => Ok(Ok(number(word)?)),
     }
 }
 

@@ -13,7 +13,7 @@ impl Joining<u64> for Larger {
     ghost origin = { Prim.search rules };
 
     fn join(&self, total: u64, item: u64) -> Result<u64, Fault> {
-        if total < item { Ok(item) } else { Ok(total) }
+        Ok(total.max(item))
     }
 }
 
@@ -27,13 +27,10 @@ impl Joining<u64> for Sum {
     ghost origin = { Prim.search rules };
 
     fn join(&self, total: u64, item: u64) -> Result<u64, Fault> {
-        match total.checked_add(item) {
-            Some(sum) => Ok(sum),
-            None => Err(Fault {
-                origin: Fault::JOINING,
-                cause: 1,
-                place: 0,
-            }),
-        }
+        total.checked_add(item).ok_or(Fault {
+            origin: Fault::JOINING,
+            cause: 1,
+            place: 0,
+        })
     }
 }

@@ -1,60 +1,35 @@
 ghost use Rattle.std.specs.Prelude.{Ok, nat_eq};
-ghost use Rattle.rules.specs.Rules.{bay_and_bus, same_block, same_pair};
-ghost use Rattle.std.proofs.Common.{rules};
+ghost use Rattle.rules.specs.Rules.{bay_and_bus, same_pair};
+ghost use Rattle.std.proofs.Common.{rules, ◌∙◌};
 
 use sources::Block;
 use steps::{Fault, Keying};
 
-// The key of an item is the item itself.
+// The key of an item is the item itself, whatever kind of item it is.
 #[derive(Clone, Copy, PartialEq, Eq, Debug)]
 pub struct Itself;
 
-impl Keying<u64> for Itself {
-    type Key = u64;
+impl<T: Eq + Drop> Keying<T> for Itself {
+    type Key = T;
 
-    ghost key = { λ _ n. Ok n };
+    ghost key = { λ _ item. Ok item };
 
-    ghost same = { nat_eq };
+    ghost same = { T.eq };
 
     ghost origin = { Prim.search rules };
 
-    ghost reflexive = { Prim.search rules };
+    ghost reflexive = { T.Eq.laws.refl };
 
-    ghost symmetric = { Prim.search rules };
+    ghost symmetric = { λ p q e. T.Eq.laws.symm q p ∙ e };
 
-    ghost transitive = { Prim.search rules };
+    ghost transitive = { λ p q r e f. T.Eq.laws.congr p q r e ∙ f };
 
-    fn key_of(&self, item: u64) -> Result<u64, Fault> {
+    fn key_of(&self, item: T) -> Result<T, Fault> {
         Ok(item)
     }
 
-    fn same_key(&self, a: u64, b: u64) -> bool {
+    fn same_key(&self, a: T, b: T) -> bool {
         a == b
-    }
-}
-
-// The key of a block is the block itself.
-impl Keying<Block> for Itself {
-    type Key = Block;
-
-    ghost key = { λ _ b. Ok b };
-
-    ghost same = { same_block };
-
-    ghost origin = { Prim.search rules };
-
-    ghost reflexive = { Prim.search rules };
-
-    ghost symmetric = { Prim.search rules };
-
-    ghost transitive = { Prim.search rules };
-
-    fn key_of(&self, item: Block) -> Result<Block, Fault> {
-        Ok(item)
-    }
-
-    fn same_key(&self, a: Block, b: Block) -> bool {
-        a.bus == b.bus && a.bay == b.bay && a.start == b.start && a.end == b.end
     }
 }
 
@@ -110,6 +85,6 @@ impl Keying<Block> for BayAndBus {
     }
 
     fn same_key(&self, a: (u16, u16), b: (u16, u16)) -> bool {
-        a.0 == b.0 && a.1 == b.1
+        a == b
     }
 }

@@ -2,7 +2,7 @@
 use Rattle.std.proofs.Common.{◌≡◌, ℕ, zero, suc, ◌+◌, ◌-◌, ◌<◌, cond, ltb, ◌∷◌, map, Some, None, ap, ◌∙◌, arith}
 use Rattle.std.specs.List.{slice_get}
 use Rattle.std.proofs.lemmas.Bool.Decides.{nat_tests}
-use Rattle.steps.specs.declared.answer.Step.TheVariants.{Item as item}
+use Rattle.steps.specs.Steps.{item}
 use Rattle.sources.specs.Ranges.{count_up, numbers, EachBelow}
 
 pub numbers_more : (start stop : ℕ) → start < stop → numbers start stop ≡ item start ∷ numbers (start + 1) stop

@@ -1,8 +1,7 @@
 -- What record bytes mean does not hang on the bound that the reading counts down, and is what the relation says.
-use Rattle.std.proofs.Common.{◌≡◌, ℕ, zero, suc, ◌+◌, ◌-◌, ◌<◌, ◌≤◌, Bool, true, false, cond, ltb, List, [], ◌∷◌, length, get_or, take, drop, sym, refl, ap, ◌∙◌, subst, arith, length-drop}
+use Rattle.std.proofs.Common.{◌≡◌, ℕ, zero, suc, ◌+◌, ◌-◌, ◌<◌, ◌≤◌, Bool, true, false, cond, ltb, List, [], ◌∷◌, length, get_or, take, drop, sym, refl, ap, ◌∙◌, subst, arith, length-drop, Err}
 use Rattle.std.proofs.lemmas.List.{take-append-drop, length-take-le, take_rest, drop_all, drop-drop}
 use Rattle.std.proofs.lemmas.Bool.{ltb-true, ltb-false, lt-ltb, le-ltb, cond-true, cond-false}
-use Rattle.steps.specs.declared.answer.Step.TheVariants.{Fault as fault}
 use Rattle.sources.specs.Records.{word, broken, record_step, reading, records_from, Reads, no_bytes, cut_header, cut_payload, one_record}
 
 pub fuel : (n m place : ℕ) (bytes : List ℕ) → length bytes ≤ n → length bytes ≤ m → reading n place bytes ≡ reading m place bytes
@@ -16,7 +15,7 @@ fuel (suc n) (suc m) p (a ∷ []) h k = refl
 fuel (suc n) (suc m) p (a ∷ (b ∷ [])) h k = refl
 fuel (suc n) (suc m) p (a ∷ (b ∷ (c ∷ []))) h k = refl
 fuel (suc n) (suc m) p (l0 ∷ (l1 ∷ (k0 ∷ (k1 ∷ bs)))) h k =
-    ap (λ more. cond (ltb (length bs) (word l0 l1)) (fault (broken 2 p) ∷ []) (record_step p (word k0 k1) (take (word l0 l1) bs) ∷ more))
+    ap (λ more. cond (ltb (length bs) (word l0 l1)) (Err (broken 2 p) ∷ []) (record_step p (word k0 k1) (take (word l0 l1) bs) ∷ more))
     (fuel n m (p + 4 + word l0 l1) (drop (word l0 l1) bs) (simp length-drop (omega arith)) (simp length-drop (omega arith)))
 
 pub reads : (n place : ℕ) (bytes : List ℕ) → length bytes ≤ n → Reads place bytes (reading n place bytes)
@@ -29,7 +28,7 @@ reads (suc n) p (a ∷ (b ∷ (c ∷ []))) h = cut_header _ (omega arith) (omega
 reads (suc n) p (l0 ∷ (l1 ∷ (k0 ∷ (k1 ∷ bs)))) h =
     let w = word l0 l1 in
     let whole = record_step p (word k0 k1) (take w bs) ∷ reading n (p + 4 + w) (drop w bs) in
-    let at : Bool → Type 0 = λ t. ltb (length bs) w ≡ t → Reads p (l0 ∷ (l1 ∷ (k0 ∷ (k1 ∷ bs)))) (cond t (fault (broken 2 p) ∷ []) whole) in
+    let at : Bool → Type 0 = λ t. ltb (length bs) w ≡ t → Reads p (l0 ∷ (l1 ∷ (k0 ∷ (k1 ∷ bs)))) (cond t (Err (broken 2 p) ∷ []) whole) in
     let yes : at true = λ e. cut_payload (ltb-true (length bs) w e) in
     let no : at false = λ e.
     subst (λ ys. Reads p (l0 ∷ (l1 ∷ (k0 ∷ (k1 ∷ ys)))) whole) (take-append-drop w bs)
@@ -50,14 +49,14 @@ from_tail bytes at = ap (λ ys. reading (length ys) at ys) (sym (take_rest bytes
 pub nothing_left : (bytes : List ℕ) (at : ℕ) → length bytes ≤ at → records_from bytes at ≡ []
 nothing_left bytes at h = ap (λ ys. reading (length ys) at ys) (drop_all at bytes h)
 
-pub header_cut : (at : ℕ) (ys : List ℕ) → 0 < length ys → length ys < 4 → reading (length ys) at ys ≡ fault (broken 1 at) ∷ []
+pub header_cut : (at : ℕ) (ys : List ℕ) → 0 < length ys → length ys < 4 → reading (length ys) at ys ≡ Err (broken 1 at) ∷ []
 header_cut at [] h k = absurd (omega arith)
 header_cut at (a ∷ []) h k = refl
 header_cut at (a ∷ (b ∷ [])) h k = refl
 header_cut at (a ∷ (b ∷ (c ∷ []))) h k = refl
 header_cut at (a ∷ (b ∷ (c ∷ (d ∷ ys)))) h k = absurd (omega arith)
 
-pub payload_cut : (at w : ℕ) (ys : List ℕ) → 4 ≤ length ys → w ≡ word (get_or ys 0 0) (get_or ys 1 0) → length (behind 4 ys) < w → reading (length ys) at ys ≡ fault (broken 2 at) ∷ []
+pub payload_cut : (at w : ℕ) (ys : List ℕ) → 4 ≤ length ys → w ≡ word (get_or ys 0 0) (get_or ys 1 0) → length (behind 4 ys) < w → reading (length ys) at ys ≡ Err (broken 2 at) ∷ []
 payload_cut at w [] h e k = absurd (omega arith)
 payload_cut at w (a ∷ []) h e k = absurd (omega arith)
 payload_cut at w (a ∷ (b ∷ [])) h e k = absurd (omega arith)

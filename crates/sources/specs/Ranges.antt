@@ -1,8 +1,7 @@
 -- The numbers from a start to below a stop.
 use Rattle.std.specs.Prelude.{◌≡◌, ℕ, zero, suc, ◌+◌, ◌-◌, cond, List, [], ◌∷◌, map, Some, None, nat_lt}
+use Rattle.steps.specs.Steps.{Step, item}
 use Rattle.std.specs.List.{slice_get}
-use Rattle.steps.specs.declared.answer.Step.{Step}
-use Rattle.steps.specs.declared.answer.Step.TheVariants.{Item as item}
 
 -- n numbers from a start on
 abbrev pub count_up : ℕ → ℕ → List ℕ

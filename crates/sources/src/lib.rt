@@ -4,12 +4,14 @@
 #![tactic(auto)]
 
 mod block;
+mod cause;
 mod list;
 mod range;
 mod records;
 mod script;
 
 pub use block::Block;
+pub use cause::{Cause, UnknownCause};
 pub use list::List;
 pub use range::Range;
 pub use records::Records;

@@ -1,5 +1,5 @@
 ghost use Rattle.std.specs.Prelude.{◌≡◌, map};
-ghost use Rattle.steps.specs.declared.answer.Step.TheVariants.{Item as step_item};
+ghost use Rattle.steps.specs.Steps.{item};
 
 use steps::{Answer, Fault, Source};
 
@@ -11,7 +11,7 @@ pub struct List<'a, T> {
 
 impl<'a, T: Copy> List<'a, T> {
     pub fn new(list: &'a [T]) -> Self
-        ensures ahead { map step_item result.rest.now ≡ map step_item list.now }
+        ensures ahead { map item result.rest.now ≡ map item list.now }
     {
         List { rest: list }
     }
@@ -20,7 +20,7 @@ impl<'a, T: Copy> List<'a, T> {
 impl<'a, T: Copy> Source for List<'a, T> {
     type Item = T;
 
-    ghost ahead = { λ s. map step_item s.rest.now };
+    ghost ahead = { λ s. map item s.rest.now };
 
     fn next(&mut self) -> Result<Answer<T>, Fault> {
         let [item, rest @ ..] = self.rest else {

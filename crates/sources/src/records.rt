@@ -3,6 +3,7 @@ ghost use Rattle.steps.specs.Steps.{answer as step_answer};
 ghost use Rattle.sources.specs.Records.{word, broken, record_step, records_from, Reads};
 
 use crate::block::Block;
+use crate::cause::Cause;
 use steps::{Answer, Fault, Source};
 
 // The kind of a record that holds a block.
@@ -31,17 +32,7 @@ impl<'a> Records<'a> {
 fn word_of(low: u8, high: u8) -> u16
     ensures { result ≡ word low high }
 {
-    low as u16 + 256 * high as u16
-}
-
-fn fault_at(cause: u16, at: usize) -> Fault
-    ensures { result ≡ broken cause at }
-{
-    Fault {
-        origin: Fault::SOURCE,
-        cause,
-        place: at as u64,
-    }
+    u16::from_le_bytes([low, high])
 }
 
 // The block that a whole record at a place holds, or what is wrong with it.
@@ -49,10 +40,10 @@ fn read_block(at: usize, kind: u16, payload: &[u8]) -> Result<Answer<Block>, Fau
     ensures { result ≡ step_answer (record_step at kind payload.now) }
 {
     if kind != BLOCK {
-        return Err(fault_at(3, at));
+        return Err(Cause::OtherKind.fault_at(at));
     }
     let [b0, b1, y0, y1, s0, s1, e0, e1] = payload else {
-        return Err(fault_at(4, at));
+        return Err(Cause::OtherLength.fault_at(at));
     };
     let block = Block {
         bus: word_of(*b0, *b1),
@@ -61,7 +52,7 @@ fn read_block(at: usize, kind: u16, payload: &[u8]) -> Result<Answer<Block>, Fau
         end: word_of(*e0, *e1),
     };
     if block.end <= block.start || block.end > DAY {
-        return Err(fault_at(5, at));
+        return Err(Cause::WrongMinutes.fault_at(at));
     }
     Ok(Answer::Item(block))
 }
@@ -78,12 +69,12 @@ impl<'a> Source for Records<'a> {
         }
         let [l0, l1, k0, k1, rest @ ..] = &self.bytes[at..] else {
             self.at = self.bytes.len();
-            return Err(fault_at(1, at));
+            return Err(Cause::CutHeader.fault_at(at));
         };
         let len = word_of(*l0, *l1) as usize;
         if rest.len() < len {
             self.at = self.bytes.len();
-            return Err(fault_at(2, at));
+            return Err(Cause::CutPayload.fault_at(at));
         }
         self.at = at + 4 + len;
         read_block(at, word_of(*k0, *k1), &rest[0..len])

@@ -34,9 +34,6 @@ impl<'a, T: Copy> Source for Script<'a, T> {
         };
         let step = *step;
         self.rest = rest;
-        match step {
-            Step::Item(item) => Ok(Answer::Item(item)),
-            Step::Fault(fault) => Err(fault),
-        }
+        step.map(Answer::Item)
     }
 }

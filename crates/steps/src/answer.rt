@@ -1,6 +1,7 @@
 use crate::fault::Fault;
 
-// What a source answers where no fault is met: an item, or the end. The original's `PyIterReturn`.
+// What a source answers where no fault is met: an item, or the end. The original's `PyIterReturn`, which stands beside Option
+// on purpose: there is one answer for items and for enumerators' rows, and a rule reads `End` where the page says end.
 #[derive(Clone, Copy, PartialEq, Eq, Debug)]
 pub enum Answer<T> {
     Item(T),
@@ -8,8 +9,4 @@ pub enum Answer<T> {
 }
 
 // One of the steps that a source has ahead: an item, or a fault.
-#[derive(Clone, Copy, PartialEq, Eq, Debug)]
-pub enum Step<T> {
-    Item(T),
-    Fault(Fault),
-}
+pub type Step<T> = Result<T, Fault>;

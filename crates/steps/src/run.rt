@@ -1,6 +1,5 @@
 ghost use Rattle.std.specs.Prelude.{◌≡◌, List, [], ◌++◌, IfOk};
-ghost use Rattle.steps.specs.Steps.{answered};
-ghost use Rattle.steps.specs.declared.answer.Step.{Step as AStep};
+ghost use Rattle.steps.specs.Steps.{Step, answered};
 
 use crate::answer::{Answer, Step};
 use crate::fault::Fault;
@@ -12,9 +11,9 @@ fn step_of<T: Drop>(answer: Result<Answer<T>, Fault>) -> Option<Step<T>>
     ensures { result ≡ answered answer }
 {
     match answer {
-        Ok(Answer::Item(item)) => Some(Step::Item(item)),
+        Ok(Answer::Item(item)) => Some(Ok(item)),
         Ok(Answer::End) => None,
-        Err(fault) => Some(Step::Fault(fault)),
+        Err(fault) => Some(Err(fault)),
     }
 }
 
@@ -23,7 +22,7 @@ pub fn collect<S: Source>(heap: Global, source: &mut S) -> Result<Vec<Step<S::It
 where
     S::Item: Drop,
     ensures gives { IfOk result (λ v. (v.items ≡ S.Source.ahead source.old) × (S.Source.ahead source.new ≡ [])) }
-    ensures described_without_memory { (front : List (AStep S.Item)) × (S.Source.ahead source.old ≡ front ++ S.Source.ahead source.new) }
+    ensures described_without_memory { (front : List (Step S.Item)) × (S.Source.ahead source.old ≡ front ++ S.Source.ahead source.new) }
 {
     let mut steps = Vec::new(heap);
     while let Some(step) = step_of(source.next()) {

@@ -1,6 +1,5 @@
 ghost use Rattle.std.specs.Prelude.{◌≡◌, List};
-ghost use Rattle.steps.specs.Steps.{first, rest};
-ghost use Rattle.steps.specs.declared.answer.Step.{Step as AStep};
+ghost use Rattle.steps.specs.Steps.{Step, first, rest};
 
 use crate::answer::Answer;
 use crate::fault::Fault;
@@ -10,7 +9,7 @@ use crate::fault::Fault;
 pub trait Source {
     type Item;
 
-    ghost ahead: { Self → List (AStep Self.Item) };
+    ghost ahead: { Self → List (Step Self.Item) };
 
     fn next(&mut self) -> Result<Answer<Self::Item>, Fault>
         ensures gives { result ≡ first (ahead self.old) }

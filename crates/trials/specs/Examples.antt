@@ -1,7 +1,6 @@
 -- Worked examples of the definitions, as one table.
-use Rattle.std.specs.Prelude.{◌≡◌, ℕ, zero, suc, Bool, true, false, List, [], ◌∷◌, ◌++◌, map, Some, None, Ok, Result}
+use Rattle.std.specs.Prelude.{◌≡◌, ℕ, zero, suc, Bool, true, false, List, [], ◌∷◌, ◌++◌, map, Some, None, Ok, Result, Err}
 use Rattle.steps.specs.declared.fault.Fault.{Fault}
-use Rattle.steps.specs.declared.answer.Step.TheVariants.{Item as item, Fault as fault}
 use Rattle.laws.specs.Islice.{bounds, until, slices, slice_end}
 use Rattle.laws.specs.Chain.{until_fault}
 use Rattle.laws.specs.TakeWhile.{taken}
@@ -31,34 +30,34 @@ one_block = 8 ∷ (0 ∷ (16 ∷ (0 ∷ (7 ∷ (0 ∷ (2 ∷ (0 ∷ (104 ∷ (1 
 pub record WorkedExamples : Type 0 where
   -- islice 0, 5, 3 over 0 to 9 gives 0 and 3, and has drawn five
   pub every_third : bounds (Some 0 ∷ (Some 5 ∷ (Some 3 ∷ []))) ≡ Some (record { start = 0; stop = Some 5; stride = 3 })
-  pub every_third_gives : slices (until 0 (Some 5)) 3 (Some 0) 0 (numbers 0 10) ≡ item 0 ∷ (item 3 ∷ [])
+  pub every_third_gives : slices (until 0 (Some 5)) 3 (Some 0) 0 (numbers 0 10) ≡ Ok 0 ∷ (Ok 3 ∷ [])
   pub every_third_leaves : slice_end (until 0 (Some 5)) 3 (Some 0) 0 (numbers 0 10) ≡ numbers 5 10
   -- islice 3, 1 over 0 to 9 gives nothing, and has drawn three
   pub start_past_stop_gives : slices (until 3 (Some 1)) 1 (Some 3) 0 (numbers 0 10) ≡ []
   pub start_past_stop_leaves : slice_end (until 3 (Some 1)) 1 (Some 3) 0 (numbers 0 10) ≡ numbers 3 10
   -- compress 7 8 9 by 1 0 gives 7, and has drawn all three data
-  pub selected : compressed {A = ℕ} {B = ℕ} nonzero (map item (7 ∷ (8 ∷ (9 ∷ [])))) (map item (1 ∷ (0 ∷ []))) ≡ item 7 ∷ []
-  pub selected_leaves : compress_end {A = ℕ} {B = ℕ} (map item (7 ∷ (8 ∷ (9 ∷ [])))) (map item (1 ∷ (0 ∷ []))) ≡ record { data_left = []; selectors_left = [] }
+  pub selected : compressed {A = ℕ} {B = ℕ} nonzero (map Ok (7 ∷ (8 ∷ (9 ∷ [])))) (map Ok (1 ∷ (0 ∷ []))) ≡ Ok 7 ∷ []
+  pub selected_leaves : compress_end {A = ℕ} {B = ℕ} (map Ok (7 ∷ (8 ∷ (9 ∷ [])))) (map Ok (1 ∷ (0 ∷ []))) ≡ record { data_left = []; selectors_left = [] }
   -- pairwise: a fault before any pair loses an item, a later one loses none
-  pub fault_before_a_pair : unpaired {A = ℕ} (item 1 ∷ (fault broke ∷ (item 2 ∷ (item 3 ∷ [])))) ≡ fault broke ∷ (item (2, 3) ∷ [])
-  pub fault_after_a_pair : unpaired {A = ℕ} (item 1 ∷ (item 2 ∷ (fault broke ∷ (item 3 ∷ [])))) ≡ item (1, 2) ∷ (fault broke ∷ (item (2, 3) ∷ []))
+  pub fault_before_a_pair : unpaired {A = ℕ} (Ok 1 ∷ (Err broke ∷ (Ok 2 ∷ (Ok 3 ∷ [])))) ≡ Err broke ∷ (Ok (2, 3) ∷ [])
+  pub fault_after_a_pair : unpaired {A = ℕ} (Ok 1 ∷ (Ok 2 ∷ (Err broke ∷ (Ok 3 ∷ [])))) ≡ Ok (1, 2) ∷ (Err broke ∷ (Ok (2, 3) ∷ []))
   -- zip_longest: a left fault draws nothing on the right, so the pairs shift
-  pub left_fault : zipped {A = ℕ} {B = ℕ} 0 0 (item 1 ∷ (fault broke ∷ (item 2 ∷ []))) (item 5 ∷ (item 6 ∷ [])) ≡ item (1, 5) ∷ (fault broke ∷ (item (2, 6) ∷ []))
+  pub left_fault : zipped {A = ℕ} {B = ℕ} 0 0 (Ok 1 ∷ (Err broke ∷ (Ok 2 ∷ []))) (Ok 5 ∷ (Ok 6 ∷ [])) ≡ Ok (1, 5) ∷ (Err broke ∷ (Ok (2, 6) ∷ []))
   -- chain is cut after the first fault
-  pub chain_cut : until_fault {A = ℕ} ((item 1 ∷ (fault broke ∷ (item 2 ∷ []))) ++ (item 3 ∷ [])) ≡ item 1 ∷ (fault broke ∷ [])
+  pub chain_cut : until_fault {A = ℕ} ((Ok 1 ∷ (Err broke ∷ (Ok 2 ∷ []))) ++ (Ok 3 ∷ [])) ≡ Ok 1 ∷ (Err broke ∷ [])
   -- takewhile and dropwhile go on after a source's fault, and end or start at the first denied item
-  pub taken_over_a_fault : taken nonzero (item 1 ∷ (fault broke ∷ (item 2 ∷ (item 0 ∷ (item 3 ∷ []))))) ≡ item 1 ∷ (fault broke ∷ (item 2 ∷ []))
-  pub dropped_over_a_fault : dropped nonzero (item 1 ∷ (fault broke ∷ (item 0 ∷ (item 2 ∷ [])))) ≡ fault broke ∷ (item 0 ∷ (item 2 ∷ []))
+  pub taken_over_a_fault : taken nonzero (Ok 1 ∷ (Err broke ∷ (Ok 2 ∷ (Ok 0 ∷ (Ok 3 ∷ []))))) ≡ Ok 1 ∷ (Err broke ∷ (Ok 2 ∷ []))
+  pub dropped_over_a_fault : dropped nonzero (Ok 1 ∷ (Err broke ∷ (Ok 0 ∷ (Ok 2 ∷ [])))) ≡ Err broke ∷ (Ok 0 ∷ (Ok 2 ∷ []))
   -- compress: a data fault leaves the selector for the next datum, a selector's fault loses its datum
-  pub data_fault : compressed {A = ℕ} {B = ℕ} nonzero (fault broke ∷ (item 7 ∷ [])) (item 1 ∷ []) ≡ fault broke ∷ (item 7 ∷ [])
-  pub selector_fault : compressed {A = ℕ} {B = ℕ} nonzero (item 7 ∷ (item 8 ∷ [])) (fault broke ∷ (item 1 ∷ [])) ≡ fault broke ∷ (item 8 ∷ [])
+  pub data_fault : compressed {A = ℕ} {B = ℕ} nonzero (Err broke ∷ (Ok 7 ∷ [])) (Ok 1 ∷ []) ≡ Err broke ∷ (Ok 7 ∷ [])
+  pub selector_fault : compressed {A = ℕ} {B = ℕ} nonzero (Ok 7 ∷ (Ok 8 ∷ [])) (Err broke ∷ (Ok 1 ∷ [])) ≡ Err broke ∷ (Ok 8 ∷ [])
   -- record bytes: a header and a payload cut short, another kind, another length, and an end that is not after its start
-  pub header_cut : records_from (8 ∷ (0 ∷ (16 ∷ []))) 0 ≡ fault (broken 1 0) ∷ []
-  pub payload_cut : records_from (8 ∷ (0 ∷ (16 ∷ (0 ∷ (7 ∷ []))))) 0 ≡ fault (broken 2 0) ∷ []
-  pub other_kind_and_length : records_from (0 ∷ (0 ∷ (17 ∷ (0 ∷ (0 ∷ (0 ∷ (16 ∷ (0 ∷ [])))))))) 0 ≡ fault (broken 3 0) ∷ (fault (broken 4 4) ∷ [])
-  pub no_minutes : records_from (8 ∷ (0 ∷ (16 ∷ (0 ∷ (7 ∷ (0 ∷ (2 ∷ (0 ∷ (104 ∷ (1 ∷ (104 ∷ (1 ∷ [])))))))))))) 0 ≡ fault (broken 5 0) ∷ []
+  pub header_cut : records_from (8 ∷ (0 ∷ (16 ∷ []))) 0 ≡ Err (broken 1 0) ∷ []
+  pub payload_cut : records_from (8 ∷ (0 ∷ (16 ∷ (0 ∷ (7 ∷ []))))) 0 ≡ Err (broken 2 0) ∷ []
+  pub other_kind_and_length : records_from (0 ∷ (0 ∷ (17 ∷ (0 ∷ (0 ∷ (0 ∷ (16 ∷ (0 ∷ [])))))))) 0 ≡ Err (broken 3 0) ∷ (Err (broken 4 4) ∷ [])
+  pub no_minutes : records_from (8 ∷ (0 ∷ (16 ∷ (0 ∷ (7 ∷ (0 ∷ (2 ∷ (0 ∷ (104 ∷ (1 ∷ (104 ∷ (1 ∷ [])))))))))))) 0 ≡ Err (broken 5 0) ∷ []
   -- the bytes of one block: bus 7 at bay 2 from minute 360 to 370
-  pub block_bytes : records_from one_block 0 ≡ item (record { bus = 7; bay = 2; start = 360; end = 370 }) ∷ []
+  pub block_bytes : records_from one_block 0 ≡ Ok (record { bus = 7; bay = 2; start = 360; end = 370 }) ∷ []
   -- product of lengths 2 and 2, of no pools, of 3 and 0, of one pool of 2 twice over, and a repeat of 0 beside an empty pool
   pub product_of_two : product_rows (2 ∷ (2 ∷ [])) 1 ≡ (0 ∷ (0 ∷ [])) ∷ ((0 ∷ (1 ∷ [])) ∷ ((1 ∷ (0 ∷ [])) ∷ ((1 ∷ (1 ∷ [])) ∷ [])))
   pub product_of_none : product_rows [] 1 ≡ [] ∷ []

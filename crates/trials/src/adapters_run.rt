@@ -4,7 +4,7 @@ use adapters::{
 use rules::{Below, LastsAtLeast, Sum};
 use sources::{Block, List, Range, Records, Script};
 use std::test::Fail;
-use steps::{Answer, Fault, Refusal, Source, Step};
+use steps::{Answer, Fault, Refusal, Source};
 
 const BROKEN: Fault = Fault {
     origin: 1,
@@ -55,7 +55,7 @@ fn slices_that_are_refused(rt: HostRuntime) {
 
 #[test]
 fn a_datum_is_drawn_before_its_selector(rt: HostRuntime) {
-    let mut items = Script::new(&[Step::Item(7), Step::Item(8), Step::Item(9)]);
+    let mut items = Script::new(&[Ok(7), Ok(8), Ok(9)]);
     let selectors = [0u64, 5];
     let mut kept = Compress::new(&mut items, List::new(&selectors), Below { limit: 1 });
     assert_eq!(rt; kept.next(), Ok(Answer::Item(7)));
@@ -80,7 +80,7 @@ fn a_joining_that_fails_leaves_the_total(rt: HostRuntime) {
 
 #[test]
 fn a_chain_is_cut_after_a_fault(rt: HostRuntime) {
-    let mut first = Script::new(&[Step::Item(1), Step::Fault(BROKEN), Step::Item(2)]);
+    let mut first = Script::new(&[Ok(1), Err(BROKEN), Ok(2)]);
     let mut both = Chain::new(&mut first, Range::new(5, 7));
     assert_eq!(rt; both.next(), Ok(Answer::Item(1)));
     assert_eq!(rt; both.next(), Err(BROKEN));

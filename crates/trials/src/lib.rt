@@ -5,16 +5,18 @@
 ghost use Rattle.std.specs.Prelude.{◌≡◌, [], ◌∷◌};
 ghost use Rattle.trials.specs.Examples.{WorkedExamples};
 
-use steps::Fault;
-
 #[cfg(test)]
 mod adapters_run;
 #[cfg(test)]
 mod enumerators_run;
+mod keys;
 #[cfg(test)]
 mod plans_run;
 #[cfg(test)]
 mod records_run;
+
+pub use keys::{is_same_block, is_same_number};
+use steps::Fault;
 
 // The worked examples hold of the definitions that the contracts cite.
 pub fn worked_examples() -> u8

@@ -1,5 +1,4 @@
 use Rattle.std.proofs.Common.{◌≡◌, ◌∷◌, None, Ok, sym, ap, ◌∙◌}
-use Rattle.steps.specs.declared.answer.Step.TheVariants.{Item as item}
 use Rattle.steps.specs.Steps.{first, rest}
 use Rattle.laws.specs.Pairwise.{pairs, unpaired, unpaired_left, pairs_left, next_old, first_old, pairs_old}
 use Rattle.laws.proofs.Answers.{item_first}
@@ -14,8 +13,8 @@ returns-in-Item g c =
     let ts = g.S.Source.ahead c.next.new.self in
     let p = c.pair_with-in-Item.ensures in
     let none = c.in-None.is in
-    let whole : ss ≡ item old ∷ ts =
-    item_first old ss (sym c.next.ensures.gives ∙ c.in_ok-old-in-None.was ∙ ap Ok c.in-Item.is) ∙ ap (λ us. item old ∷ us) (sym c.next.ensures.leaves) in
+    let whole : ss ≡ Ok old ∷ ts =
+    item_first old ss (sym c.next.ensures.gives ∙ c.in_ok-old-in-None.was ∙ ap Ok c.in-Item.is) ∙ ap (λ us. Ok old ∷ us) (sym c.next.ensures.leaves) in
     let both = ap (λ o. pairs o ss) none ∙ ap unpaired whole in
     record {
       gives = p.gives ∙ sym (ap first both ∙ first_pair old ts);

@@ -1,7 +1,6 @@
 use Rattle.std.proofs.Common.{◌≡◌, ◌<◌, [], map, length, sym, ap, ◌∙◌, rules}
 use Rattle.std.proofs.lemmas.List.{nil_from_length}
-use Rattle.steps.specs.Steps.{first, rest}
-use Rattle.steps.specs.declared.answer.Step.TheVariants.{Item as item}
+use Rattle.steps.specs.Steps.{item, first, rest}
 use Rattle.sources.proofs.Lists.{first_and_rest}
 use Rattle.sources.proofs.list.ListSource.next.Goals as goal
 

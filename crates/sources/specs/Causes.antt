@@ -1,0 +1,16 @@
+-- The numbers of the causes for which a record is faulty.
+use Rattle.std.specs.Prelude.{◌≡◌, ℕ, ◌≢◌, Result, MatchResult}
+use Rattle.sources.specs.declared.cause.Cause.{Cause}
+use Rattle.sources.specs.declared.cause.Cause.TheVariants.{CutHeader, CutPayload, OtherKind, OtherLength, WrongMinutes}
+use Rattle.sources.specs.declared.cause.UnknownCause.{UnknownCause}
+
+abbrev pub cause_number : Cause → ℕ
+cause_number CutHeader = 1
+cause_number CutPayload = 2
+cause_number OtherKind = 3
+cause_number OtherLength = 4
+cause_number WrongMinutes = 5
+
+-- what a number stands for: the cause that has it, or none where no cause has it
+abbrev pub Numbers : ℕ → Result Cause UnknownCause → Type 0
+Numbers n r = MatchResult r (λ cause. cause_number cause ≡ n) (λ e. (e.0 ≡ n) × ((cause : Cause) → cause_number cause ≢ n))

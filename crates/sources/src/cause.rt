@@ -1,0 +1,54 @@
+ghost use Rattle.std.specs.Prelude.{◌≡◌};
+ghost use Rattle.sources.specs.Causes.{cause_number, Numbers};
+ghost use Rattle.sources.specs.Records.{broken};
+
+use steps::Fault;
+
+// What is wrong with a record, by the number that its fault has as cause. They are looked for in this order.
+#[derive(Clone, Copy, PartialEq, Eq, Debug)]
+pub enum Cause {
+    // fewer than four bytes are left
+    CutHeader = 1,
+    // fewer bytes are left than the header tells
+    CutPayload = 2,
+    // the record holds no block
+    OtherKind = 3,
+    // its payload is not as long as a block
+    OtherLength = 4,
+    // the block does not end after its start, or ends after midnight
+    WrongMinutes = 5,
+}
+
+// A number that no cause has.
+#[derive(Clone, Copy, PartialEq, Eq, Debug)]
+pub struct UnknownCause(pub u16);
+
+impl Cause {
+    // The fault of a record that begins at this byte.
+    pub(crate) fn fault_at(self, place: usize) -> Fault
+        ensures { result ≡ broken (cause_number self) place }
+    {
+        Fault {
+            origin: Fault::SOURCE,
+            cause: self as u16,
+            place: place as u64,
+        }
+    }
+}
+
+impl TryFrom<u16> for Cause {
+    type Error = UnknownCause;
+
+    ghost try_from_gives = { Numbers };
+
+    fn try_from(number: u16) -> Result<Self, UnknownCause> {
+        match number {
+            1 => Ok(Cause::CutHeader),
+            2 => Ok(Cause::CutPayload),
+            3 => Ok(Cause::OtherKind),
+            4 => Ok(Cause::OtherLength),
+            5 => Ok(Cause::WrongMinutes),
+            _ => Err(UnknownCause(number)),
+        }
+    }
+}

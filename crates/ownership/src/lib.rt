@@ -1,5 +1,6 @@
 // How sources, adapters and enumerators are owned. Every function here is accepted as it stands; the edits listed in
-// the folder ownership/ turn one line each, and the compiler has to refuse each of them.
+// the folder ownership/ turn one line each, and the compiler has to refuse each of them. Every type has functions of its own and not
+// one generic one, since what has to be refused is a copy or a second use of that type.
 
 #![tactic(auto)]
 

@@ -1,3 +1,2 @@
-mod Lists
 mod Counting
 pub mod Reading

@@ -1,23 +1,25 @@
 ghost use Rattle.std.specs.Prelude.{◌≡◌, length};
+ghost use Rattle.std.specs.Slice.Iter.{iter_rest};
 
+use std::slice;
 use steps::{Answer, Fault, Source, Step};
 
 // The steps of a lent list, items and faults as they stand there: what a test feeds to a rule.
 #[derive(Drop)]
 pub struct Script<'a, T> {
-    rest: &'a [Step<T>],
+    rest: slice::Iter<'a, Step<T>>,
 }
 
 impl<'a, T: Copy> Script<'a, T> {
     pub fn new(steps: &'a [Step<T>]) -> Self
-        ensures ahead { result.rest.now ≡ steps.now }
+        ensures ahead { ⟦<Script<'a, T> as Source>⟧.ahead result ≡ steps.now }
     {
-        Script { rest: steps }
+        Script { rest: steps.iter() }
     }
 
     // How many steps are still ahead.
     pub fn left(&self) -> usize
-        ensures { result ≡ length self.now.rest.now }
+        ensures { result ≡ length (⟦<Script<'a, T> as Source>⟧.ahead self.now) }
     {
         self.rest.len()
     }
@@ -26,14 +28,9 @@ impl<'a, T: Copy> Script<'a, T> {
 impl<'a, T: Copy> Source for Script<'a, T> {
     type Item = T;
 
-    ghost ahead = { λ s. s.rest.now };
+    ghost ahead = { λ s. iter_rest s.rest };
 
     fn next(&mut self) -> Result<Answer<T>, Fault> {
-        let [step, rest @ ..] = self.rest else {
-            return Ok(Answer::End);
-        };
-        let step = *step;
-        self.rest = rest;
-        step.map(Answer::Item)
+        self.rest.next().copied().transpose().map(Answer::from)
     }
 }

@@ -11,6 +11,11 @@ Step A = Result A Fault
 abbrev pub item : {A : Type 0} → A → Step A
 item a = Ok a
 
+-- an item is answered, and none is the end
+abbrev pub answer_of : {A : Type 0} → Option A → Answer A
+answer_of (Some a) = Item a
+answer_of None = End
+
 -- what a call answers for a step
 abbrev pub answer : {A : Type 0} → Step A → Result (Answer A) Fault
 answer (Ok a) = Ok (Item a)

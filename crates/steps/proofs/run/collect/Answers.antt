@@ -1,16 +1,8 @@
 use Rattle.std.proofs.Common.{◌≡◌, [], ◌∷◌, ◌++◌, Some, vec_items, sym, ap, ◌∙◌}
 use Rattle.std.proofs.lemmas.Result.{err_from_is_err_and}
-use Rattle.steps.specs.Steps.{first, rest, answered}
+use Rattle.steps.specs.Steps.{first, answered}
 use Rattle.steps.proofs.Answered.{drawn_more}
 use Rattle.steps.proofs.run.collect.Goals as goal
-
-pub loop-step-preserved : goal.loop-step-preserved
-loop-step-preserved g c =
-    let ss = g.S.Source.ahead c.loop-step.source in
-    let f : answered (first ss) ≡ Some c.in-Some.step = ap answered (sym c.next.ensures.gives) ∙ sym c.in-Some.ensures in
-    drawn_more _ (vec_items c.loop-step.steps) ss c.in-Some.step c.loop-step.invariant f
-    ∙ ap (λ us. us ++ rest ss) (sym c.in_ok-push.ensures.items)
-    ∙ ap (λ us. vec_items c.push.new.self ++ us) (sym c.next.ensures.leaves)
 
 pub returns-in_err-push : goal.returns-in_err-push
 returns-in_err-push g c =

@@ -1,10 +1,8 @@
-use Rattle.std.proofs.Common.{Ok, sym, ap, ◌∙◌, arith}
-use Rattle.steps.specs.declared.answer.Answer.TheVariants.{Item}
-use Rattle.steps.specs.Steps.{first, rest}
-use Rattle.sources.proofs.Counting.{numbers_more}
+use Rattle.sources.proofs.Counting.{numbers_left}
 use Rattle.sources.proofs.range.RangeSource.next.Goals as goal
 
-pub returns : goal.returns
-returns c =
-    let e = numbers_more c.args.self.now.next c.args.self.now.stop (omega arith) in
-    record { gives = ap (λ n. Ok (Item n)) c.from-number.ensures ∙ sym (ap first e); leaves = sym (ap rest e) }
+pub returns-clause-leaves : goal.returns-clause-leaves
+returns-clause-leaves c =
+    let s = c.args.self.now.numbers in
+    let t = c.next.new.self in
+    numbers_left s.start s.end t.start t.end c.next.result c.next.ensures.steps

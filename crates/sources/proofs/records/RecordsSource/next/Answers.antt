@@ -1,13 +1,8 @@
 use Rattle.std.proofs.Common.{◌-◌, ◌<◌, ◌≤◌, length, take, Err, sym, ap, ◌∙◌, arith, rules}
 use Rattle.steps.specs.Steps.{answer, first, rest}
 use Rattle.sources.specs.Records.{record_step}
-use Rattle.sources.proofs.Reading.{tail_at, behind, from_tail, nothing_left, header_cut, payload_cut, whole_record, next_record}
+use Rattle.sources.proofs.Reading.{tail_at, behind, from_tail, nothing_left, header_cut, whole_record, next_record}
 use Rattle.sources.proofs.records.RecordsSource.next.Goals as goal
-
-pub returns-then-at-self : goal.returns-then-at-self
-returns-then-at-self c =
-    let e = nothing_left c.args.self.now.bytes.now c.args.self.now.at c.if-at-self.true in
-    record { gives = sym (ap first e); leaves = e ∙ sym (ap rest e) }
 
 pub returns-in_default : goal.returns-in_default
 returns-in_default c =
@@ -17,14 +12,6 @@ returns-in_default c =
     let hi : length (tail_at bs at) < 4 = search rules in
     let e = from_tail bs at ∙ header_cut at (tail_at bs at) lo hi in
     record { gives = ap Err c.fault_at.ensures ∙ sym (ap first e); leaves = nothing_left bs (length bs) (omega arith) ∙ sym (ap rest e) }
-
-pub returns-then-rest-len : goal.returns-then-rest-len
-returns-then-rest-len c =
-    let bs = c.args.self.now.bytes.now in
-    let at = c.args.self.now.at in
-    let lo : 4 ≤ length (tail_at bs at) = search rules in
-    let e = from_tail bs at ∙ payload_cut at c.word_of-len.result (tail_at bs at) lo c.word_of-len.ensures c.if-rest-len.true in
-    record { gives = ap Err c.fault_at-then-rest-len.ensures ∙ sym (ap first e); leaves = nothing_left bs (length bs) (omega arith) ∙ sym (ap rest e) }
 
 pub returns : goal.returns
 returns c =

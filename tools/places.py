@@ -80,7 +80,6 @@ def twins():
 def together():
     pairs = collections.defaultdict(set)
     for name, fn, rest in functions():
-        head = rest.split('\n    {')[0].split('{')[0]
         m = re.match(r'(?:<[^(]*>)?\((.*?)\)(?: ->|\n|$| \{)', rest, re.S)
         params = re.findall(r'(\w+): ', m.group(1)) if m else []
         for i, a in enumerate(params):
@@ -92,9 +91,9 @@ def together():
 def facts():
     count = collections.defaultdict(set)
     for name, fn, rest in functions():
-        for clause in re.findall(r'requires ?\w* ?\{ (.*?) \}\n', rest):
+        for clause in re.findall(r'(?:requires|ensures) ?\w* ?\{ (.*?) \}\n', rest, re.S):
             for part in re.split(r' × ', clause):
-                count[part.strip('() ').replace('.old', '').replace('.now', '')].add(f'{name}: fn {fn}')
+                count[' '.join(part.split()).strip('() ').replace('.old', '').replace('.now', '')].add(f'{name}: fn {fn}')
     return [f'{p} in {len(w)} functions' for p, w in sorted(count.items(), key=lambda q: -len(q[1])) if len(w) >= 3]
 
 
@@ -103,7 +102,7 @@ POINTS = [
      + lines(r'^    (pub(\([a-z]+\))? )?\w+: bool,$')
      + lines(r'^    pub (origin|cause): u\d+,|fault_at\([0-9]|fn reason|=> [0-9],$|^    r$|return Err\(fmt::Error|FAILED\.len')),
     ('2. twins', twins()),
-    ('3. loops that count by hand', lines(r'\bfor \w+ in [^{]*\.\.|while \w+ [<>]|\b(i|n|count|ends|rest) [-+/]= |\.push\(')),
+    ('3. loops that count by hand', lines(r'\bfor \w+ in [^{]*\.\.|\.enumerate\(\)|while \w+ [<>]|\b(i|n|count|ends|rest) [-+/]= |\.push\(')),
     ('4. equality, conversion, printing by hand',
      lines(r'a\.\w+ == b\.|fn (word_of|number\w*|reason|digit\w*|step_of|keep_first)\b|256 \* |fn (show|write)_\w+')
      + lines(r'write_str\("|^impl.* (fmt::Display|From<.*>|Show) for')),

@@ -17,6 +17,7 @@ impl<S: Source, J: Joining<S::Item>> Accumulate<S, J>
 where
     S::Item: Copy,
 {
+    #[tactic(auto, using(laws::proofs::Totals::running_totals))]
     pub fn new(source: S, joining: J, initial: Option<S::Item>) -> Self
         ensures ahead { ⟦<Accumulate<S, J> as Source>⟧.ahead result ≡ from_initial (J.Joining.joins joining) initial (S.Source.ahead source) }
         ensures law { RunningTotals (J.Joining.joins joining) initial (S.Source.ahead source) (⟦<Accumulate<S, J> as Source>⟧.ahead result) }

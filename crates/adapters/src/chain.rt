@@ -23,6 +23,8 @@ pub struct Chain<A, B> {
 }
 
 impl<A: Source, B: Source<Item = A::Item>> Chain<A, B> {
+    // what is ahead is spelled out, since a chain is a source only where its items can be dropped
+    #[tactic(auto, using(laws::proofs::Chains::one_after_other))]
     pub fn new(first: A, second: B) -> Self
         ensures ahead { chains result.stage (A.Source.ahead result.first) (B.Source.ahead result.second) ≡ until_fault (A.Source.ahead first ++ B.Source.ahead second) }
         ensures law { OneAfterOther (A.Source.ahead first) (B.Source.ahead second) (chains result.stage (A.Source.ahead result.first) (B.Source.ahead result.second)) }

@@ -19,6 +19,7 @@ impl<D: Source, S: Source, P: Predicate<S::Item>> Compress<D, S, P>
 where
     D::Item: Drop,
 {
+    #[tactic(auto, using(laws::proofs::Selected::keeps_accepted))]
     pub fn new(items: D, selectors: S, predicate: P) -> Self
         ensures ahead { ⟦<Compress<D, S, P> as Source>⟧.ahead result ≡ compressed (P.Predicate.says predicate) (D.Source.ahead items) (S.Source.ahead selectors) }
         ensures law { KeepsAccepted (P.Predicate.says predicate) (D.Source.ahead items) (S.Source.ahead selectors) (⟦<Compress<D, S, P> as Source>⟧.ahead result) }
@@ -70,7 +71,8 @@ impl<D: Source, S: Source, P: Predicate<S::Item>> Compress<D, S, P>
 where
     D::Item: Drop,
 {
-    // Steps the compress until it says end, and answers the first fault that it met, if any.
+    // Steps the compress until it says end, and answers the first fault that it met, if any. The same loop stands in islice: one for
+    // any source could not say what each leaves below, but by a trait of its own that is longer than both.
     pub fn finish(&mut self) -> Option<Fault>
         ensures meets { result ≡ first_fault (⟦<Compress<D, S, P> as Source>⟧.ahead self.old) }
         ensures ended { self.new.ended ≡ true }

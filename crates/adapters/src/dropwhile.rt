@@ -16,6 +16,7 @@ impl<S: Source, P: Predicate<S::Item>> DropWhile<S, P>
 where
     S::Item: Copy,
 {
+    #[tactic(auto, using(laws::proofs::Fronts::behind_front))]
     pub fn new(predicate: P, source: S) -> Self
         ensures ahead { ⟦<DropWhile<S, P> as Source>⟧.ahead result ≡ dropped (P.Predicate.says predicate) (S.Source.ahead source) }
         ensures law { BehindFront (P.Predicate.says predicate) (S.Source.ahead source) (⟦<DropWhile<S, P> as Source>⟧.ahead result) }

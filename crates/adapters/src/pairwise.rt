@@ -12,6 +12,8 @@ pub struct Pairwise<S: Source> {
 }
 
 impl<S: Source> Pairwise<S> {
+    // what is ahead is spelled out, since a pairwise is a source only where its items can be copied
+    #[tactic(auto, using(laws::proofs::Pairs::neighbours))]
     pub fn new(source: S) -> Self
         ensures ahead { pairs result.old (S.Source.ahead result.source) ≡ unpaired (S.Source.ahead source) }
         ensures law { Neighbours (S.Source.ahead source) (pairs result.old (S.Source.ahead result.source)) }

@@ -16,6 +16,7 @@ impl<S: Source, P: Predicate<S::Item>> TakeWhile<S, P>
 where
     S::Item: Copy,
 {
+    #[tactic(auto, using(laws::proofs::Fronts::longest_front))]
     pub fn new(predicate: P, source: S) -> Self
         ensures ahead { ⟦<TakeWhile<S, P> as Source>⟧.ahead result ≡ taken (P.Predicate.says predicate) (S.Source.ahead source) }
         ensures law { LongestFront (P.Predicate.says predicate) (S.Source.ahead source) (⟦<TakeWhile<S, P> as Source>⟧.ahead result) }

@@ -18,6 +18,7 @@ where
     L::Item: Copy,
     R::Item: Copy,
 {
+    #[tactic(auto, using(laws::proofs::Pairs::longest_zip))]
     pub fn new(left: L, right: R, left_fill: L::Item, right_fill: R::Item) -> Self
         ensures ahead { ⟦<ZipLongest<L, R> as Source>⟧.ahead result ≡ zipped left_fill right_fill (L.Source.ahead left) (R.Source.ahead right) }
         ensures law { LongestZip left_fill right_fill (L.Source.ahead left) (R.Source.ahead right) (⟦<ZipLongest<L, R> as Source>⟧.ahead result) }

@@ -2,8 +2,10 @@
 
 #![tactic(auto)]
 
+mod climbing;
 mod combinations;
 mod replacement;
 
-pub use combinations::Combinations;
-pub use replacement::CombinationsWithReplacement;
+pub use climbing::{Climb, Climbing};
+pub use combinations::{Combinations, Rising};
+pub use replacement::{CombinationsWithReplacement, Level};

@@ -46,6 +46,7 @@ pub trait Enumerator {
     fn row_len(&self) -> usize
         ensures { result ≡ width self.now };
 
+    // Each kind says it: a body given here would be proved for every kind, also for one of several pools.
     fn pool_starts(&self) -> [u16; 64]
         ensures { result ≡ starts self.now };
 
@@ -86,11 +87,10 @@ pub trait Enumerator {
             places.len(),
             elements.len(),
         )?;
-        let starts = self.pool_starts();
         let Some(row) = self.row() else {
             return Ok(Answer::End);
         };
-        let lying = positions_of(&starts, row);
+        let lying = positions_of(self.pool_starts(), row);
         copy(pool, &lying[0..width], elements);
         places[0..width].copy_from_slice(row);
         self.advance();

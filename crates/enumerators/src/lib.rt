@@ -9,4 +9,4 @@ mod limits;
 
 pub use enumerator::Enumerator;
 pub use history::{Call, every_history, run};
-pub use limits::{MOST_ELEMENTS, MOST_PLACES, check_limits};
+pub use limits::{Choice, MOST_ELEMENTS, MOST_PLACES, check_limits};

@@ -1,6 +1,6 @@
 // What a making accepts.
-ghost use Rattle.std.specs.Prelude.{◌≡◌};
-ghost use Rattle.rows.specs.Calls.{some_above, unmakable, unmakable_number, number_told, allowed};
+ghost use Rattle.std.specs.Prelude.{◌≡◌, ◌≤◌, [], ◌∷◌, MatchResult};
+ghost use Rattle.rows.specs.Calls.{some_above, unmakable, unmakable_number, Unmade, number_told, allowed};
 
 use steps::Refusal;
 
@@ -14,12 +14,7 @@ pub const MOST_PLACES: usize = 64;
 fn has_long_pool(lengths: &[usize]) -> bool
     ensures { result ≡ some_above 256 lengths.now }
 {
-    for length in lengths {
-        if *length > MOST_ELEMENTS {
-            return true;
-        }
-    }
-    false
+    lengths.iter().any(|length| *length > MOST_ELEMENTS)
 }
 
 // Refuses pools of these lengths, or rows of so many places, where they pass the limits: first each pool is
@@ -35,4 +30,25 @@ pub fn check_limits(lengths: &[usize], width: usize) -> Result<(), Refusal>
         return Err(Refusal::RowTooLong);
     }
     Ok(())
+}
+
+// A pool of `n` elements and rows of `r` places, where a making accepts them.
+#[derive(Clone, Copy)]
+pub struct Choice {
+    pub n: usize,
+    pub r: usize,
+    ghost few: { n ≤ 256 },
+    ghost short: { r ≤ 64 },
+}
+
+impl Choice {
+    // Refused where the pool or the row passes the limits.
+    pub fn new(n: usize, r: usize) -> Result<Choice, Refusal>
+        ensures { MatchResult result
+            (λ choice. (unmakable 256 64 (n ∷ []) r ≡ None) × (choice.n ≡ n) × (choice.r ≡ r))
+            (λ refusal. Unmade 256 64 (n ∷ []) r refusal) }
+    {
+        check_limits(&[n], r)?;
+        Ok(Choice { n, r })
+    }
 }

@@ -3,5 +3,6 @@
 #![tactic(auto)]
 
 mod permutations;
+mod turning;
 
 pub use permutations::Permutations;

@@ -1,6 +1,8 @@
 -- Pairwise over a list of blocks, as joints; and a loop's step over them.
-use Rattle.std.proofs.Common.{◌≡◌, ℕ, zero, suc, ◌+◌, ◌<◌, List, [], ◌∷◌, ◌++◌, map, length, get_or, drop, sym, refl, ap, ◌∙◌, add-one, arith, Ok, Err}
+use Rattle.std.specs.List.{count_by}
 use Rattle.steps.specs.Steps.{Step}
+use Rattle.std.proofs.lemmas.List.Recursion.{is_count_by}
+use Rattle.std.proofs.Common.{◌≡◌, ℕ, zero, suc, Bool, true, false, cond, ◌+◌, ◌<◌, List, [], ◌∷◌, ◌++◌, map, length, get_or, drop, sym, refl, ap, ◌∙◌, add-one, arith, Ok, Err}
 use Rattle.std.specs.List.{slice_get}
 use Rattle.std.proofs.lemmas.List.{append_assoc, at_drop_more}
 use Rattle.steps.specs.declared.fault.Fault.{Fault}
@@ -30,13 +32,6 @@ joints_at (a ∷ (b ∷ bs)) (suc k) = joints_at (b ∷ bs) k
 pub every_joint : (bs : List Block) (k : ℕ) → slice_get (joints bs) k ≡ joint_at (slice_get bs k) (slice_get bs (k + 1))
 every_joint bs k = joints_at bs k ∙ ap (λ n. joint_at (slice_get bs k) (slice_get bs n)) (sym (add-one k))
 
--- one joint further in a count
-pub count_more : (f : Finding) (js : List Joint) (i n total : ℕ) (d : Joint) → i < length js → n + count f (drop i js) ≡ total →
-    (n + one_if (is_finding f (get_or js i d).seam)) + count f (drop (i + 1) js) ≡ total
-count_more f js i n total d lt e =
-    let s : count f (drop i js) ≡ one_if (is_finding f (get_or js i d).seam) + count f (drop (i + 1) js) = at_drop_more (count f) js i d lt in
-    omega (arith, s, e)
-
 -- one step further in a split
 pub item_more : {A : Type 0} (whole got : List A) (ss : List (Step A)) (i : ℕ) (d : Step A) (a : A) → i < length ss → d ≡ get_or ss i d → d ≡ Ok a → got ++ items (drop i ss) ≡ whole → (got ++ a ∷ []) ++ items (drop (i + 1) ss) ≡ whole
 item_more whole got ss i d a lt is g e =
@@ -57,3 +52,11 @@ pub fault_skips : {A : Type 0} (whole got : List A) (ss : List (Step A)) (i : �
 fault_skips whole got ss i d f lt is g e =
     let s = at_drop_more items ss i d lt ∙ ap (λ t. items (t ∷ drop (i + 1) ss)) (sym is ∙ g) in
     ap (λ us. got ++ us) (sym s) ∙ e
+
+-- the count is the library's
+pub found : (f : Finding) (js : List Joint) → count f js ≡ count_by (λ j. is_finding f j.seam) js
+found f = is_count_by (count f) (λ j. is_finding f j.seam) refl (λ j js. chosen (is_finding f j.seam) (count f js))
+  where
+    chosen : (t : Bool) (n : ℕ) → one_if t + n ≡ cond t (1 + n) n
+    chosen true n = omega arith
+    chosen false n = omega arith

@@ -1,5 +1,6 @@
+mod Reasons
 mod Joints
-mod Lines
 mod Passing
 mod Reports
 mod Verdicts
+mod Widths

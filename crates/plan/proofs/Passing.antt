@@ -1,5 +1,5 @@
 -- A plan whose findings are all zero is sound, and no other.
-use Rattle.std.proofs.Common.{◌≡◌, ℕ, zero, suc, ◌+◌, ◌-◌, ◌<◌, ◌≤◌, Bool, true, false, cond, eqb, ltb, List, [], ◌∷◌, length, Some, None, sym, refl, ap, ◌∙◌, subst, ⊎_elim, add-one, arith}
+use Rattle.std.proofs.Common.{◌≡◌, ℕ, zero, suc, ◌+◌, ◌-◌, ◌<◌, ◌≤◌, Bool, true, false, cond, eqb, ltb, List, [], ◌∷◌, length, Some, sym, refl, ap, ◌∙◌, subst, ⊎_elim, add-one, arith}
 use Rattle.std.specs.List.{slice_get}
 use Rattle.std.proofs.lemmas.List.{nil_from_length}
 use Rattle.std.proofs.lemmas.Bool.{ltb-true, ltb-false, leb-false, lt-leb, le-ltb, eqb-true, eq-eqb, ne_eqb, cond-true, cond-false, cond_both, cases_Bool, cases_lt, and_parts, and_from, both_ways}
@@ -18,16 +18,10 @@ Adjacent P [] = Unit {0}
 Adjacent P (a ∷ []) = Unit {0}
 Adjacent P (a ∷ (b ∷ xs)) = P a b × Adjacent P (b ∷ xs)
 
-some_same : {A : Type 0} (a b : A) → Some a ≡ Some b → a ≡ b
-some_same a b e = cc
-
-never : {A : Type 0} (a : A) → None ≡ Some a → ⊥
-never a e = let z : ◌≡◌ {A = ℕ} 0 1 = cc in omega arith
-
 adjacent_at : {A : Type 0} (P : A → A → Type 0) (xs : List A) → Adjacent P xs → (k : ℕ) (a b : A) → slice_get xs k ≡ Some a → slice_get xs (suc k) ≡ Some b → P a b
-adjacent_at P [] h k a b e f = absurd (never a e)
-adjacent_at P (x ∷ []) h k a b e f = absurd (never b f)
-adjacent_at P (x ∷ (y ∷ xs)) h zero a b e f = subst (λ u. P u b) (some_same x a e) (subst (P x) (some_same y b f) h.0)
+adjacent_at P [] h k a b e f = absurd (cc)
+adjacent_at P (x ∷ []) h k a b e f = absurd (cc)
+adjacent_at P (x ∷ (y ∷ xs)) h zero a b e f = subst (λ u. P u b) (cc) (subst (P x) (cc) h.0)
 adjacent_at P (x ∷ (y ∷ xs)) h (suc k) a b e f = adjacent_at P (y ∷ xs) h.1 k a b e f
 
 every_two : {A : Type 0} (P : A → A → Type 0) (xs : List A) → Adjacent P xs → EveryTwo P xs

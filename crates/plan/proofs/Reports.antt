@@ -21,13 +21,7 @@ pub reported : (steps : List (Step Block)) (bs : List Block) (fs : List Fault) (
     bs ≡ items steps → fs ≡ faults steps → js ≡ joints (items steps) → t ≡ tally_of (length (faults steps)) (joints (items steps)) →
     text ≡ account_text bs fs js t.pairs → line ≡ verdict_line t → whole ≡ text ++ (line ++ codes "\n") → whole ≡ report_text steps
 unfolding report_text
-reported steps bs fs js t text line whole b f j e a v w =
-    w
-    ∙ ap (λ us. us ++ (line ++ codes "\n"))
-    (a ∙ ap (λ us. account_text us fs js t.pairs) b ∙ ap (λ us. account_text (items steps) us js t.pairs) f
-    ∙ ap (λ us. account_text (items steps) (faults steps) us t.pairs) j
-    ∙ ap (λ (u : Tally). account_text (items steps) (faults steps) (joints (items steps)) u.pairs) e)
-    ∙ ap (λ us. account_text (items steps) (faults steps) (joints (items steps)) (tally_of (length (faults steps)) (joints (items steps))).pairs ++ (us ++ codes "\n")) (v ∙ ap verdict_line e)
+reported steps bs fs js t text line whole b f j e a v w = cc
 
 -- the report ends with the verdict
 module _ (steps : List (Step Block)) where

@@ -1,7 +1,7 @@
 -- A failed verdict begins with its two words.
-use Rattle.std.proofs.Common.{◌≡◌, ℕ, eqb, List, [], ◌++◌, codes, decimal, sym, refl, ap, ◌∙◌}
+use Rattle.std.proofs.Common.{◌≡◌, ℕ, eqb, List, [], ◌++◌, ◌+◌, ◌≤◌, length, arith, length-append, codes, decimal, sym, refl, ap, ◌∙◌}
 use Rattle.std.proofs.lemmas.List.{append-nil, append_assoc}
-use Rattle.std.proofs.lemmas.Bool.{cond_both}
+use Rattle.std.proofs.lemmas.Bool.{cond_both, cond-true, cond-false, ne_eqb, eq-eqb}
 use Rattle.plan.specs.declared.account.Tally.{Tally}
 use Rattle.plan.specs.Verdicts.{mark, with_reason, failed_line}
 
@@ -30,3 +30,16 @@ begins_failed t =
     (grows_on start first second (one_more start t.faults (codes "faulty records")) (one_more first t.overlaps (codes "overlaps")))
     (one_more second t.out_of_order (codes "bays out of order")))
     (one_more third t.long_gaps (codes "gaps of ten minutes or more"))
+
+-- behind one reason the next one has a comma
+pub comma_after : (line m reason : List ℕ) (n : ℕ) → 11 ≤ length line → mark (line ++ (m ++ (reason ++ (codes " " ++ decimal n)))) ≡ codes ", "
+comma_after line m reason n long =
+    let longer : length (line ++ (m ++ (reason ++ (codes " " ++ decimal n)))) ≡ length line + (length m + (length reason + (1 + length (decimal n)))) = simp length-append in
+    cond-false _ (codes ": ") (codes ", ") (ne_eqb _ 11 (λ e. omega (arith, longer, long, e)))
+
+pub with_more : (line m reason new : List ℕ) (n : ℕ) → (n ≡ 0 → ⊥) → m ≡ mark line → new ≡ line ++ (m ++ (reason ++ (codes " " ++ decimal n))) → new ≡ with_reason line n reason
+with_more line m reason new n some is e =
+    e ∙ ap (λ s. line ++ (s ++ (reason ++ (codes " " ++ decimal n)))) is ∙ sym (cond-false _ line (line ++ (mark line ++ (reason ++ (codes " " ++ decimal n)))) (ne_eqb n 0 some))
+
+pub with_none : (line reason : List ℕ) (n : ℕ) → n ≡ 0 → line ≡ with_reason line n reason
+with_none line reason n none = sym (cond-true _ line (line ++ (mark line ++ (reason ++ (codes " " ++ decimal n)))) (eq-eqb n 0 none))

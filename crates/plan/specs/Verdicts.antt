@@ -1,5 +1,6 @@
 -- The one line that planners read.
 use Rattle.std.specs.Prelude.{ℕ, cond, List, ◌++◌, length, codes, decimal, ◌==◌}
+use Rattle.std.specs.Borrow.{Bor}
 use Rattle.plan.specs.declared.account.Tally.{Tally}
 use Rattle.plan.specs.Plans.{all_clear}
 
@@ -9,6 +10,10 @@ mark line = cond (length line == 11) (codes ": ") (codes ", ")
 
 abbrev pub with_reason : List ℕ → ℕ → List ℕ → List ℕ
 with_reason line n reason = cond (n == 0) line (line ++ (mark line ++ (reason ++ (codes " " ++ decimal n))))
+
+-- the same of a count beside its reason
+abbrev pub and_reason : List ℕ → ℕ × Bor (List ℕ) → List ℕ
+and_reason line r = with_reason line r.0 r.1.now
 
 unfoldable pub failed_line : Tally → List ℕ
 failed_line t =

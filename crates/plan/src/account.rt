@@ -28,6 +28,19 @@ impl Tally {
     {
         self.faults == 0 && self.overlaps == 0 && self.out_of_order == 0 && self.long_gaps == 0
     }
+
+    // Counts what was found.
+    fn of(faults: usize, joints: &[Joint]) -> Tally
+        ensures { result ≡ tally_of faults joints.now }
+    {
+        Tally {
+            faults,
+            pairs: count_findings(joints, Finding::Pair),
+            overlaps: count_findings(joints, Finding::Overlapping),
+            out_of_order: count_findings(joints, Finding::OutOfOrder),
+            long_gaps: count_findings(joints, Finding::LongGap),
+        }
+    }
 }
 
 // What a plan holds, and how its blocks lie.
@@ -49,6 +62,7 @@ fn read_plan(heap: Global, bytes: &[u8]) -> Result<(Vec<Block>, Vec<Fault>), All
 }
 
 // Every block laid side by side with the next.
+#[tactic(auto, using(crate::proofs::Joints::laid_out))]
 fn lay_out(heap: Global, blocks: &[Block]) -> Result<Vec<Joint>, AllocError>
     ensures { IfOk result (λ v. v.items ≡ joints blocks.now) }
 {
@@ -56,21 +70,6 @@ fn lay_out(heap: Global, blocks: &[Block]) -> Result<Vec<Joint>, AllocError>
     let steps = collect(heap, &mut neighbours)?;
     let (pairs, _) = split_steps(heap, steps.as_slice())?;
     lay_side_by_side(heap, pairs.as_slice())
-}
-
-impl Tally {
-    // Counts what was found.
-    fn of(faults: usize, joints: &[Joint]) -> Tally
-        ensures { result ≡ tally_of faults joints.now }
-    {
-        Tally {
-            faults,
-            pairs: count_findings(joints, Finding::Pair),
-            overlaps: count_findings(joints, Finding::Overlapping),
-            out_of_order: count_findings(joints, Finding::OutOfOrder),
-            long_gaps: count_findings(joints, Finding::LongGap),
-        }
-    }
 }
 
 // Reads a plan from its record bytes, and lays every two neighbouring blocks side by side.

@@ -56,12 +56,24 @@ impl Seam {
     pub fn is(self, finding: Finding) -> bool
         ensures { result ≡ is_finding finding self }
     {
-        match (finding, self) {
-            (Finding::Pair, Seam::Overlap(_) | Seam::Gap(_)) => true,
-            (Finding::Overlapping, Seam::Overlap(_)) => true,
-            (Finding::OutOfOrder, Seam::BayOutOfOrder) => true,
-            (Finding::LongGap, Seam::Gap(minutes)) => minutes >= LONG_GAP,
-            _ => false,
+        match finding {
+            Finding::Pair => matches!(self, Seam::Overlap(_) | Seam::Gap(_)),
+            Finding::Overlapping => matches!(self, Seam::Overlap(_)),
+            Finding::OutOfOrder => matches!(self, Seam::BayOutOfOrder),
+            Finding::LongGap => matches!(self, Seam::Gap(minutes) if minutes >= LONG_GAP),
+        }
+    }
+}
+
+impl Joint {
+    // The two blocks laid side by side.
+    fn between(first: Block, second: Block) -> Joint
+        ensures { result ≡ joint_of (first, second) }
+    {
+        Joint {
+            first,
+            second,
+            seam: Seam::between(first, second),
         }
     }
 }
@@ -70,27 +82,16 @@ impl Seam {
 pub fn lay_side_by_side(heap: Global, pairs: &[(Block, Block)]) -> Result<Vec<Joint>, AllocError>
     ensures { IfOk result (λ v. v.items ≡ map joint_of pairs.now) }
 {
-    let mut joints = Vec::new(heap);
-    for pair in pairs {
-        let (first, second) = *pair;
-        joints.push(Joint {
-            first,
-            second,
-            seam: Seam::between(first, second),
-        })?;
-    }
-    Ok(joints)
+    pairs
+        .iter()
+        .map(|pair| Joint::between(pair.0, pair.1))
+        .collect(heap)
 }
 
 // How many seams are such a finding.
+#[tactic(auto, using(crate::proofs::Joints::found))]
 pub fn count_findings(joints: &[Joint], finding: Finding) -> usize
     ensures { result ≡ count finding joints.now }
 {
-    let mut n: usize = 0;
-    for joint in joints {
-        if joint.seam.is(finding) {
-            n += 1;
-        }
-    }
-    n
+    joints.iter().filter(|joint| joint.seam.is(finding)).count()
 }

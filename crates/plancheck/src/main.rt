@@ -5,29 +5,22 @@
 
 mod sample;
 
-use anyhow::anyhow;
+use anyhow::bail;
 use plan::report;
 use sample::SAMPLE;
 use std::{env, fs};
 
-fn run(rt: &HostRuntime) -> anyhow::Result<()> {
-    let heap = rt.alloc();
-    let mut args = env::args(rt)?;
-    let _program = args.next();
-    let Some(path) = args.next() else {
-        rt.print(report(heap, &SAMPLE)?)?;
-        return Ok(());
-    };
-    if args.next().is_some() {
-        return Err(anyhow!("usage: plancheck [PLAN]"));
-    }
-    match fs::read(rt, path.as_str()) {
-        Ok(bytes) => rt.print(report(heap, bytes.as_slice())?)?,
-        Err(error) => return Err(anyhow!(format!(in heap; "{path}: {error}")?)),
-    }
-    Ok(())
-}
-
 fn main(rt: HostRuntime) -> anyhow::Result<()> {
-    run(&rt)
+    let heap = rt.alloc();
+    let mut args = env::args(&rt)?.skip(1);
+    let text = match (args.next(), args.next()) {
+        (None, _) => report(heap, &SAMPLE)?,
+        (Some(path), None) => match fs::read(&rt, path.as_str()) {
+            Ok(bytes) => report(heap, bytes.as_slice())?,
+            Err(error) => bail!(format!(in heap; "{path}: {error}")?),
+        },
+        _ => bail!("usage: plancheck [PLAN]"),
+    };
+    rt.print(text)?;
+    Ok(())
 }

@@ -3,6 +3,7 @@
 #![tactic(auto)]
 
 mod counter;
+mod pools;
 mod product;
 
 pub use product::{Product, pool_by_pool};

@@ -1,6 +1,7 @@
 -- The lines that answers are written as.
 use Rattle.std.specs.Prelude.{ℕ, zero, suc, Bool, true, false, List, [], ◌∷◌, ◌++◌, Some, None, Ok, Err, vec_items, codes, decimal, Option, Result}
 use Rattle.steps.specs.Steps.{Step}
+use Rattle.std.specs.List.{flat_map}
 use Rattle.steps.specs.declared.answer.Answer.{Answer}
 use Rattle.steps.specs.declared.answer.Answer.TheVariants.{Item as answer_item, End}
 use Rattle.steps.specs.declared.fault.Fault.{Fault}
@@ -32,8 +33,7 @@ both_left_line m n = codes "left " ++ (decimal m ++ (codes " " ++ (decimal n ++ 
 
 -- the text of each item in turn
 abbrev pub each : {A : Type 0} → (A → List ℕ) → List A → List ℕ
-each text [] = []
-each text (x ∷ xs) = text x ++ each text xs
+each text xs = flat_map text xs
 
 -- a number behind a space
 abbrev pub spaced : ℕ → List ℕ

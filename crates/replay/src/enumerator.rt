@@ -1,9 +1,10 @@
 // Scenarios of enumerators: calls of `next`, each lent a pool and two buffers.
 
 use crate::flaw::Flaw;
-use crate::form::{lengths, number, number32, triple};
-use crate::show::{show_calls, show_refusal};
-use combinations::{Combinations, CombinationsWithReplacement};
+use crate::form::{lengths, number, number32, optional, triple};
+use crate::play::Player;
+use crate::show::{Show, show_calls};
+use combinations::{Climb, Climbing};
 use enumerators::{Call, Enumerator, run};
 use permutations::Permutations;
 use products::Product;
@@ -19,83 +20,51 @@ const LONGEST_POOL: usize = 16_384;
 // What stands in the buffers before a call.
 const UNTOUCHED: u16 = 7777;
 
-// `product Q L1,L2,.. ; CALLS`
-pub fn product(
-    heap: Global,
-    repeat: &str,
-    pools: &str,
-    calls: &str,
-    out: &mut String,
-) -> Result<(), Flaw> {
-    let repeat = number32(repeat)?;
-    let lengths = lengths(heap, pools)?;
-    play(heap, Product::new(lengths.as_slice(), repeat), calls, out)
-}
-
-// `combinations N R ; CALLS`
-pub fn combinations(
-    heap: Global,
-    n: &str,
-    r: &str,
-    calls: &str,
-    out: &mut String,
-) -> Result<(), Flaw> {
-    let made = Combinations::new(number(n)? as usize, number(r)? as usize);
-    play(heap, made, calls, out)
-}
-
-// `replacement N R ; CALLS`
-pub fn replacement(
-    heap: Global,
-    n: &str,
-    r: &str,
-    calls: &str,
-    out: &mut String,
-) -> Result<(), Flaw> {
-    let made = CombinationsWithReplacement::new(number(n)? as usize, number(r)? as usize);
-    play(heap, made, calls, out)
-}
-
-// `permutations N R ; CALLS`, where R may be `-`
-pub fn permutations(
-    heap: Global,
-    n: &str,
-    r: &str,
-    calls: &str,
-    out: &mut String,
-) -> Result<(), Flaw> {
-    let n = number(n)? as usize;
-    let r = if r == "-" {
-        None
-    } else {
-        Some(number(r)? as usize)
-    };
-    play(heap, Permutations::new(n, r), calls, out)
-}
-
-// Makes the calls on what was made, and writes a line for each.
-fn play<E: Enumerator + Drop>(
-    heap: Global,
-    made: Result<E, Refusal>,
-    calls: &str,
-    out: &mut String,
-) -> Result<(), Flaw> {
-    let loans = read_loans(heap, calls)?;
-    let mut enumerator = match made {
-        Ok(enumerator) => enumerator,
-        Err(refusal) => return show_refusal(refusal, out),
-    };
-    let fitting = Loan {
-        pool: enumerator.pool_len(),
-        places: enumerator.row_len() + 2,
-        elements: enumerator.row_len() + 2,
-    };
-    let mut calls = Vec::new(heap);
-    for loan in loans.as_slice() {
-        calls.push(lend(heap, loan.unwrap_or(fitting))?)?;
+impl Player {
+    // `product Q L1,L2,.. ; CALLS`
+    pub fn product(&mut self, repeat: &str, pools: &str, calls: &str) -> Result<(), Flaw> {
+        let repeat = number32(repeat)?;
+        let lengths = lengths(self.heap, pools)?;
+        self.make_calls(Product::new(lengths.as_slice(), repeat), calls)
     }
-    run(&mut enumerator, calls.as_mut_slice());
-    show_calls(calls.as_slice(), out)
+
+    // `combinations N R ; CALLS` and `replacement N R ; CALLS`
+    pub fn climbing<K: Climb>(&mut self, n: &str, r: &str, calls: &str) -> Result<(), Flaw> {
+        let made = Climbing::<K>::new(number(n)? as usize, number(r)? as usize);
+        self.make_calls(made, calls)
+    }
+
+    // `permutations N R ; CALLS`, where R may be `-`
+    pub fn permutations(&mut self, n: &str, r: &str, calls: &str) -> Result<(), Flaw> {
+        let n = number(n)? as usize;
+        let r = optional(r, "-")?.map(|r| r as usize);
+        self.make_calls(Permutations::new(n, r), calls)
+    }
+
+    // Makes the calls on what was made, and writes a line for each.
+    fn make_calls<E: Enumerator + Drop>(
+        &mut self,
+        made: Result<E, Refusal>,
+        calls: &str,
+    ) -> Result<(), Flaw> {
+        let heap = self.heap;
+        let loans = read_loans(heap, calls)?;
+        let mut enumerator = match made {
+            Ok(enumerator) => enumerator,
+            Err(refusal) => return refusal.show(&mut self.out),
+        };
+        let fitting = Loan {
+            pool: enumerator.pool_len(),
+            places: enumerator.row_len() + 2,
+            elements: enumerator.row_len() + 2,
+        };
+        let mut calls: Vec<Call<u64>> = loans
+            .iter()
+            .map(|loan| lend(heap, loan.unwrap_or(fitting)))
+            .try_collect(heap)?;
+        run(&mut enumerator, calls.as_mut_slice());
+        show_calls(calls.as_slice(), &mut self.out)
+    }
 }
 
 // How much a call is lent.
@@ -106,38 +75,30 @@ struct Loan {
     elements: usize,
 }
 
-// The loans of calls, one to a word: `n:P:A:E`, or `n` for what fits.
+// The loans of calls, one to a word.
 fn read_loans(heap: Global, part: &str) -> Result<Vec<Option<Loan>>, Flaw> {
-    let mut loans = Vec::new(heap);
-    for word in part.split(' ') {
-        let loan = if word == "n" {
-            None
-        } else {
-            Some(read_loan(word)?)
-        };
-        loans.push(loan)?;
-    }
-    Ok(loans)
+    part.split(' ').map(read_loan).try_collect(heap)
 }
 
-fn read_loan(word: &str) -> Result<Loan, Flaw> {
-    let Some(numbers) = word.strip_prefix("n:") else {
-        return Err(Flaw::Form);
-    };
+// `n:P:A:E`, or `n` for what fits.
+fn read_loan(word: &str) -> Result<Option<Loan>, Flaw> {
+    if word == "n" {
+        return Ok(None);
+    }
+    let numbers = word.strip_prefix("n:").ok_or(Flaw::Form)?;
     let (pool, places, elements) = triple(numbers)?;
-    Ok(Loan {
+    Ok(Some(Loan {
         pool: number(pool)? as usize,
         places: number(places)? as usize,
         elements: number(elements)? as usize,
-    })
+    }))
 }
 
 // A call that is still to be made. A pool that is longer than any enumerator was made for is cut there, since it is refused
 // whatever its length.
 fn lend(heap: Global, loan: Loan) -> Result<Call<u64>, Flaw> {
     let elements = loan.pool.min(LONGEST_POOL + 1);
-    let mut pool = Vec::with_capacity(heap, elements)?;
-    pool.extend(FIRST_ELEMENT..FIRST_ELEMENT + elements as u64)?;
+    let pool = (FIRST_ELEMENT..FIRST_ELEMENT + elements as u64).collect(heap)?;
     Ok(Call {
         pool,
         places: vec![in heap; UNTOUCHED; loan.places]?,

@@ -1,4 +1,5 @@
 use std::alloc::{AllocError, AllocFailed};
+use std::num::{ParseIntError, TryFromIntError};
 use std::{fmt, io};
 
 // Why a scenario was not played to its end.
@@ -12,6 +13,7 @@ pub enum Flaw {
     Output(io::Error),
 }
 
+// Written out, not derived by thiserror: most of these drop what they are made from, and a flaw has no text of its own.
 impl From<AllocError> for Flaw {
     fn from(_error: AllocError) -> Flaw {
         Flaw::Memory
@@ -28,6 +30,19 @@ impl<T: Drop> From<AllocFailed<T>> for Flaw {
 impl From<fmt::Error> for Flaw {
     fn from(_error: fmt::Error) -> Flaw {
         Flaw::Memory
+    }
+}
+
+// A word that is no number, or too large a one, is none that the form has.
+impl From<ParseIntError> for Flaw {
+    fn from(_error: ParseIntError) -> Flaw {
+        Flaw::Form
+    }
+}
+
+impl From<TryFromIntError> for Flaw {
+    fn from(_error: TryFromIntError) -> Flaw {
+        Flaw::Form
     }
 }
 

@@ -19,46 +19,29 @@ pub fn words<'a>(heap: Global, part: &'a str) -> Result<Vec<&'a str>, AllocError
 pub fn number(word: &str) -> Result<u64, Flaw>
     ensures { Spelled 64 word.now result }
 {
-    let [first, ..] = word.as_bytes() else {
-        return Err(Flaw::Form);
-    };
-    if !first.is_ascii_digit() {
-        return Err(Flaw::Form);
-    }
-    match word.parse::<u64>() {
-        Ok(n) => Ok(n),
-        Err(_) => Err(Flaw::Form),
+    match word.as_bytes() {
+        [b'0'..=b'9', ..] => Ok(word.parse::<u64>()?),
+        _ => Err(Flaw::Form),
     }
 }
 
-// A number of at most 32 bits.
+// The same in fewer bits. One function for the three would need a trait for their width and value, and be longer than they are.
 pub fn number32(word: &str) -> Result<u32, Flaw>
     ensures { Spelled 32 word.now result }
 {
-    match u32::try_from(number(word)?) {
-        Ok(n) => Ok(n),
-        Err(_) => Err(Flaw::Form),
-    }
+    Ok(u32::try_from(number(word)?)?)
 }
 
-// A number of at most 16 bits.
 fn number16(word: &str) -> Result<u16, Flaw>
     ensures { Spelled 16 word.now result }
 {
-    match u16::try_from(number(word)?) {
-        Ok(n) => Ok(n),
-        Err(_) => Err(Flaw::Form),
-    }
+    Ok(u16::try_from(number(word)?)?)
 }
 
-// A number of at most 8 bits.
 fn number8(word: &str) -> Result<u8, Flaw>
     ensures { Spelled 8 word.now result }
 {
-    match u8::try_from(number(word)?) {
-        Ok(n) => Ok(n),
-        Err(_) => Err(Flaw::Form),
-    }
+    Ok(u8::try_from(number(word)?)?)
 }
 
 // A number, or nothing where the word is the mark of an absent one.
@@ -69,37 +52,34 @@ pub fn optional(word: &str, mark: &str) -> Result<Option<u64>, Flaw> {
     Ok(Some(number(word)?))
 }
 
-// The entries between commas, each a number or `_` for an absent one; `-` alone for no entries.
+// The values of a list, each read from a word; `-` alone is the empty list.
+fn listed<T: Drop, F: FnMut(&str) -> Result<T, Flaw>>(
+    heap: Global,
+    list: &str,
+    separator: char,
+    read: F,
+) -> Result<Vec<T>, Flaw>
+    requires { (state : F) (word : _) → F.pre state word }
+{
+    if list == "-" {
+        return Ok(Vec::new(heap));
+    }
+    list.split(separator).map(read).try_collect(heap)
+}
+
+// The entries between commas, each a number or `_` for an absent one.
 pub fn entries(heap: Global, word: &str) -> Result<Vec<Option<u64>>, Flaw> {
-    let mut entries = Vec::new(heap);
-    if word != "-" {
-        for entry in word.split(',') {
-            entries.push(optional(entry, "_")?)?;
-        }
-    }
-    Ok(entries)
+    listed(heap, word, ',', |entry| optional(entry, "_"))
 }
 
-// The lengths of pools between commas; `-` alone for no pools.
+// The lengths of pools between commas.
 pub fn lengths(heap: Global, word: &str) -> Result<Vec<usize>, Flaw> {
-    let mut lengths = Vec::new(heap);
-    if word != "-" {
-        for length in word.split(',') {
-            lengths.push(number(length)? as usize)?;
-        }
-    }
-    Ok(lengths)
+    listed(heap, word, ',', |length| Ok(number(length)? as usize))
 }
 
-// The steps that a source has ahead, one to a word; `-` alone for none.
+// The steps that a source has ahead, one to a word.
 pub fn steps(heap: Global, part: &str) -> Result<Vec<Step<u64>>, Flaw> {
-    let mut steps = Vec::new(heap);
-    if part != "-" {
-        for word in part.split(' ') {
-            steps.push(step(word)?)?;
-        }
-    }
-    Ok(steps)
+    listed(heap, part, ' ', step)
 }
 
 // An item is a number, a fault three numbers after `!`.
@@ -121,41 +101,30 @@ fn fault(numbers: &str) -> Result<Fault, Flaw> {
 
 // Three words with colons between them.
 pub fn triple<'a>(numbers: &'a str) -> Result<(&'a str, &'a str, &'a str), Flaw> {
-    let Some((first, rest)) = numbers.split_once(':') else {
-        return Err(Flaw::Form);
-    };
-    let Some((second, third)) = rest.split_once(':') else {
-        return Err(Flaw::Form);
-    };
+    let (first, rest) = numbers.split_once(':').ok_or(Flaw::Form)?;
+    let (second, third) = rest.split_once(':').ok_or(Flaw::Form)?;
     Ok((first, second, third))
 }
 
 // The bytes that pairs of hexadecimal digits spell; `-` alone for none.
 pub fn bytes(heap: Global, word: &str) -> Result<Vec<u8>, Flaw> {
-    let mut bytes = Vec::new(heap);
-    if word == "-" {
-        return Ok(bytes);
+    match word {
+        "-" => Ok(Vec::new(heap)),
+        "" => Err(Flaw::Form),
+        _ => word.as_bytes().chunks(2).map(byte).try_collect(heap),
     }
-    if word.is_empty() || word.len() % 2 != 0 {
-        return Err(Flaw::Form);
+}
+
+fn byte(pair: &[u8]) -> Result<u8, Flaw> {
+    match pair {
+        [high, low] => Ok(16 * digit(*high)? + digit(*low)?),
+        _ => Err(Flaw::Form),
     }
-    for pair in word.as_bytes().chunks(2) {
-        let [high, low] = pair else {
-            return Err(Flaw::Form);
-        };
-        bytes.push(16 * digit(*high)? + digit(*low)?)?;
-    }
-    Ok(bytes)
 }
 
 // The value of a hexadecimal digit, in either case.
 fn digit(byte: u8) -> Result<u8, Flaw>
     ensures { HexDigit byte result }
 {
-    match byte {
-        b'0'..=b'9' => Ok(byte - b'0'),
-        b'a'..=b'f' => Ok(byte - b'a' + 10),
-        b'A'..=b'F' => Ok(byte - b'A' + 10),
-        _ => Err(Flaw::Form),
-    }
+    Ok(char::from(byte).to_digit(16).ok_or(Flaw::Form)? as u8)
 }

@@ -4,7 +4,8 @@ ghost use Rattle.replay.specs.Lines.{says_end, answer_line, transcript};
 ghost use Rattle.steps.specs.Steps.{first, rest};
 
 use crate::flaw::Flaw;
-use crate::show::{Show, show_fault};
+use crate::show::Show;
+use std::alloc::Global;
 use steps::{Answer, Source};
 
 // How often a source is to say end before it is left.
@@ -12,6 +13,13 @@ const ENDS: u8 = 3;
 
 // How many bytes of text are kept before they are printed, where there may be many more.
 const PAGE: usize = 4096;
+
+// What a scenario is played with: the memory for what is read of it, and the text of the answers so far.
+#[derive(Drop)]
+pub struct Player {
+    pub heap: Global,
+    pub out: String,
+}
 
 // Makes one call, writes its answer, and tells whether that was the end.
 fn call<S: Source>(source: &mut S, out: &mut String) -> Result<bool, Flaw>
@@ -21,19 +29,14 @@ where
     ensures leaves { S.Source.ahead source.new ≡ rest (S.Source.ahead source.old) }
 {
     match source.next() {
-        Ok(Answer::Item(item)) => {
-            item.show(out)?;
-            Ok(false)
-        }
+        Ok(Answer::Item(item)) => item.show(out)?,
         Ok(Answer::End) => {
             out.push_str("end\n")?;
-            Ok(true)
+            return Ok(true);
         }
-        Err(fault) => {
-            show_fault(fault, out)?;
-            Ok(false)
-        }
+        Err(fault) => fault.show(out)?,
     }
+    Ok(false)
 }
 
 // Calls a source until it has said end three times in all, and writes every answer: a line for each step that it has ahead,
@@ -43,16 +46,14 @@ where
     S::Item: Show,
     ensures { OnOk result (string_bytes out.new ≡ string_bytes out.old ++ transcript S.Item.Show.line 3 (S.Source.ahead source.old)) }
 {
-    let mut ends = 0;
-    while ends < ENDS {
-        if call(source, out)? {
-            ends += 1;
-        }
+    for _ in 0..ENDS {
+        while !call(source, out)? {}
     }
     Ok(())
 }
 
-// The same where the text may be too long to be kept: it is printed a page at a time, and `out` has the last one.
+// The same where the text may be too long to be kept: it is printed a page at a time, and `out` has the last one. A loop of its own,
+// since what is printed is in no contract and `play` says the whole text.
 pub fn play_in_pages<S: Source, R: Print>(
     rt: &R,
     source: &mut S,
@@ -61,14 +62,12 @@ pub fn play_in_pages<S: Source, R: Print>(
 where
     S::Item: Show,
 {
-    let mut ends = 0;
-    while ends < ENDS {
-        if call(source, out)? {
-            ends += 1;
-        }
-        if out.len() >= PAGE {
-            rt.print(out.as_str())?;
-            out.clear();
+    for _ in 0..ENDS {
+        while !call(source, out)? {
+            if out.len() >= PAGE {
+                rt.print(out.as_str())?;
+                out.clear();
+            }
         }
     }
     Ok(())

@@ -9,6 +9,13 @@ use crate::form::number;
 use rules::Below;
 use steps::{Fault, Predicate};
 
+// What a predicate meets at its bad item.
+const NO_ANSWER: Fault = Fault {
+    origin: Fault::PREDICATE,
+    cause: 1,
+    place: 0,
+};
+
 // A predicate that meets a fault at one item, if there is such, whatever it would say of it.
 #[derive(Clone, Copy)]
 pub struct Guarded<P> {
@@ -22,14 +29,10 @@ impl<P: Predicate<u64>> Predicate<u64> for Guarded<P> {
     ghost origin = { λ s a f e. guarded_origin s.bad a (P.Predicate.says s.predicate a) f (P.Predicate.origin s.predicate a f) e };
 
     fn test(&self, item: u64) -> Result<bool, Fault> {
-        match self.bad {
-            Some(bad) if bad == item => Err(Fault {
-                origin: Fault::PREDICATE,
-                cause: 1,
-                place: 0,
-            }),
-            _ => self.predicate.test(item),
+        if self.bad == Some(item) {
+            return Err(NO_ANSWER);
         }
+        self.predicate.test(item)
     }
 }
 
@@ -49,34 +52,30 @@ impl Predicate<u64> for NonZero {
 
 // `below:LIMIT` or `below:LIMIT:BAD`.
 pub fn read_below(word: &str) -> Result<Guarded<Below>, Flaw> {
-    let Some(numbers) = word.strip_prefix("below:") else {
-        return Err(Flaw::Form);
-    };
-    let (limit, bad) = match numbers.split_once(':') {
-        Some((limit, bad)) => (limit, Some(number(bad)?)),
-        None => (numbers, None),
-    };
+    let numbers = word.strip_prefix("below:").ok_or(Flaw::Form)?;
+    let (limit, bad) = read_bad(numbers)?;
+    let limit = number(limit)?;
     Ok(Guarded {
         bad,
-        predicate: Below {
-            limit: number(limit)?,
-        },
+        predicate: Below { limit },
     })
 }
 
 // `nonzero` or `nonzero:BAD`.
 pub fn read_nonzero(word: &str) -> Result<Guarded<NonZero>, Flaw> {
-    if word == "nonzero" {
-        return Ok(Guarded {
-            bad: None,
+    match read_bad(word)? {
+        ("nonzero", bad) => Ok(Guarded {
+            bad,
             predicate: NonZero,
-        });
+        }),
+        _ => Err(Flaw::Form),
     }
-    let Some(bad) = word.strip_prefix("nonzero:") else {
-        return Err(Flaw::Form);
-    };
-    Ok(Guarded {
-        bad: Some(number(bad)?),
-        predicate: NonZero,
-    })
+}
+
+// What stands in front of `:BAD`, and the number there, if there is one.
+fn read_bad<'a>(word: &'a str) -> Result<(&'a str, Option<u64>), Flaw> {
+    match word.split_once(':') {
+        Some((front, bad)) => Ok((front, Some(number(bad)?))),
+        None => Ok((word, None)),
+    }
 }

@@ -1,19 +1,20 @@
 // The text of answers, each on a line of its own.
-ghost use Rattle.std.specs.Prelude.{◌≡◌, ℕ, List, ◌++◌, string_bytes, OnOk};
+ghost use Rattle.std.specs.Prelude.{◌≡◌, ℕ, List, ◌++◌, Some, string_bytes, decimal, OnOk, refl};
 ghost use Rattle.replay.specs.Lines.{item_line, pair_line, block_line, fault_line, refused_line, left_line, both_left_line, row_word, each, spaced, call_line};
 ghost use Rattle.steps.specs.Refusals.{refusal_number};
 
 use crate::flaw::Flaw;
 use enumerators::Call;
 use sources::Block;
+use std::fmt;
 use std::fmt::Write;
 use steps::{Answer, Fault, Refusal};
 
-// An item that an answer shows.
+// What has a line of its own among the answers. No Display, since most of it are types of other crates.
 pub trait Show {
     ghost line: { Self → List ℕ };
 
-    // Writes the item's line behind the text so far.
+    // Writes the line behind the text so far.
     fn show(self, out: &mut String) -> Result<(), Flaw>
         ensures { OnOk result (string_bytes out.new ≡ string_bytes out.old ++ line self) };
 }
@@ -22,8 +23,7 @@ impl Show for u64 {
     ghost line = { item_line };
 
     fn show(self, out: &mut String) -> Result<(), Flaw> {
-        writeln!(out, "item {self}")?;
-        Ok(())
+        Ok(writeln!(out, "item {self}")?)
     }
 }
 
@@ -32,8 +32,7 @@ impl Show for (u64, u64) {
 
     fn show(self, out: &mut String) -> Result<(), Flaw> {
         let (a, b) = self;
-        writeln!(out, "item {a} {b}")?;
-        Ok(())
+        Ok(writeln!(out, "item {a} {b}")?)
     }
 }
 
@@ -47,45 +46,66 @@ impl Show for Block {
             start,
             end,
         } = self;
-        writeln!(out, "block {bus} {bay} {start} {end}")?;
-        Ok(())
+        Ok(writeln!(out, "block {bus} {bay} {start} {end}")?)
     }
 }
 
-pub fn show_fault(fault: Fault, out: &mut String) -> Result<(), Flaw>
-    ensures { OnOk result (string_bytes out.new ≡ string_bytes out.old ++ fault_line fault) }
-{
-    let Fault {
-        origin,
-        cause,
-        place,
-    } = fault;
-    writeln!(out, "fault {origin} {cause} {place}")?;
-    Ok(())
+impl Show for Fault {
+    ghost line = { fault_line };
+
+    fn show(self, out: &mut String) -> Result<(), Flaw> {
+        let Fault {
+            origin,
+            cause,
+            place,
+        } = self;
+        Ok(writeln!(out, "fault {origin} {cause} {place}")?)
+    }
 }
 
-pub fn show_refusal(refusal: Refusal, out: &mut String) -> Result<(), Flaw>
-    ensures { OnOk result (string_bytes out.new ≡ string_bytes out.old ++ refused_line (refusal_number refusal)) }
-{
-    let number = refusal.number();
-    writeln!(out, "refused {number}")?;
-    Ok(())
+impl Show for Refusal {
+    ghost line = { λ r. refused_line (refusal_number r) };
+
+    fn show(self, out: &mut String) -> Result<(), Flaw> {
+        let number = self.number();
+        Ok(writeln!(out, "refused {number}")?)
+    }
 }
 
 // How many steps the source below an adapter still has ahead.
-pub fn show_left(left: usize, out: &mut String) -> Result<(), Flaw>
-    ensures { OnOk result (string_bytes out.new ≡ string_bytes out.old ++ left_line left) }
-{
-    writeln!(out, "left {left}")?;
-    Ok(())
+pub struct Left(pub usize);
+
+impl Show for Left {
+    ghost line = { λ l. left_line l.0 };
+
+    fn show(self, out: &mut String) -> Result<(), Flaw> {
+        let Left(left) = self;
+        Ok(writeln!(out, "left {left}")?)
+    }
 }
 
 // The same of the two sources below an adapter.
-pub fn show_both_left(first: usize, second: usize, out: &mut String) -> Result<(), Flaw>
-    ensures { OnOk result (string_bytes out.new ≡ string_bytes out.old ++ both_left_line first second) }
-{
-    writeln!(out, "left {first} {second}")?;
-    Ok(())
+pub struct BothLeft(pub usize, pub usize);
+
+impl Show for BothLeft {
+    ghost line = { λ l. both_left_line l.0 l.1 };
+
+    fn show(self, out: &mut String) -> Result<(), Flaw> {
+        let BothLeft(first, second) = self;
+        Ok(writeln!(out, "left {first} {second}")?)
+    }
+}
+
+// The line of a call on an enumerator: its answer, and what both of its buffers hold.
+impl Show for &Call<u64> {
+    ghost line = { λ c. call_line c.now };
+
+    fn show(self, out: &mut String) -> Result<(), Flaw> {
+        let answer = RowWord(self.answer);
+        let places = Spaced(self.places.as_slice());
+        let elements = Spaced(self.elements.as_slice());
+        Ok(writeln!(out, "{answer} places{places} elements{elements}")?)
+    }
 }
 
 // The calls that were made on an enumerator, a line for each.
@@ -93,57 +113,61 @@ pub fn show_calls(calls: &[Call<u64>], out: &mut String) -> Result<(), Flaw>
     ensures { OnOk result (string_bytes out.new ≡ string_bytes out.old ++ each call_line calls.now) }
 {
     for call in calls {
-        show_call(call, out)?;
+        call.show(out)?;
     }
-    Ok(())
-}
-
-// The answer to a call, and what both of its buffers hold.
-fn show_call(call: &Call<u64>, out: &mut String) -> Result<(), Flaw>
-    ensures { OnOk result (string_bytes out.new ≡ string_bytes out.old ++ call_line call.now) }
-{
-    show_row_answer(call.answer, out)?;
-    out.push_str(" places")?;
-    show_places(call.places.as_slice(), out)?;
-    out.push_str(" elements")?;
-    show_elements(call.elements.as_slice(), out)?;
-    out.push_str("\n")?;
     Ok(())
 }
 
 // The word for an answer of an enumerator, and for a call that was not made none.
-fn show_row_answer(
-    answer: Option<Result<Answer<()>, Refusal>>,
-    out: &mut String,
-) -> Result<(), Flaw>
-    ensures { OnOk result (string_bytes out.new ≡ string_bytes out.old ++ row_word answer) }
-{
-    match answer {
-        Some(Ok(Answer::Item(()))) => out.push_str("row")?,
-        Some(Ok(Answer::End)) => out.push_str("end")?,
-        Some(Err(refusal)) => {
-            let number = refusal.number();
-            write!(out, "refused {number}")?;
+#[derive(Clone, Copy)]
+struct RowWord(Option<Result<Answer<()>, Refusal>>);
+
+impl fmt::Display for RowWord {
+    ghost output = { λ w. Some (row_word w.0) };
+
+    fn fmt<W: fmt::Write>(&self, f: &mut fmt::Formatter<W>) -> fmt::Result {
+        match self.0 {
+            Some(Ok(Answer::Item(()))) => f.write_str("row"),
+            Some(Ok(Answer::End)) => f.write_str("end"),
+            Some(Err(refusal)) => {
+                let number = refusal.number();
+                write!(f, "refused {number}")
+            }
+            None => Ok(()),
         }
-        None => {}
     }
-    Ok(())
 }
 
-fn show_places(places: &[u16], out: &mut String) -> Result<(), Flaw>
-    ensures { OnOk result (string_bytes out.new ≡ string_bytes out.old ++ each spaced places.now) }
-{
-    for place in places {
-        write!(out, " {place}")?;
-    }
-    Ok(())
+// What is printed as a number in decimal digits.
+trait Number: fmt::Display {
+    ghost value: { Self → ℕ };
+
+    ghost digits: { (n : Self) → Self.Display.output n ≡ Some (decimal (value n)) };
 }
 
-fn show_elements(elements: &[u64], out: &mut String) -> Result<(), Flaw>
-    ensures { OnOk result (string_bytes out.new ≡ string_bytes out.old ++ each spaced elements.now) }
-{
-    for element in elements {
-        write!(out, " {element}")?;
+impl Number for u16 {
+    ghost value = { λ n. n };
+
+    ghost digits = { λ n. refl };
+}
+
+impl Number for u64 {
+    ghost value = { λ n. n };
+
+    ghost digits = { λ n. refl };
+}
+
+// Numbers, each behind a space.
+#[derive(Drop)]
+struct Spaced<'a, T>(&'a [T]);
+
+impl<T: Number> fmt::Display for Spaced<'_, T> {
+    ghost output = { λ s. Some (each (λ n. spaced (T.value n)) s.0.now) };
+
+    fn fmt<W: fmt::Write>(&self, f: &mut fmt::Formatter<W>) -> fmt::Result {
+        for number in self.0 {
+            write!(f, " {number}")?;
+        }
+        Ok(())
     }
-    Ok(())
 }

@@ -1,17 +1,19 @@
 -- Products: the row after one.
-use Rattle.std.proofs.Common.{◌≡◌, ℕ, zero, suc, ◌+◌, ◌*◌, ◌%◌, ◌<◌, ◌≤◌, Bool, true, false, ◌||◌, eqb, ltb, ◌⊎◌, List, [], ◌∷◌, length, get_or, take, drop, sum, sym, refl, ap, ◌∙◌, subst, inl, inr, ⊎_elim, le_trans, mul-le-mul_right, mod-lt, zero-mul, arith, length-take-le, get_or-take}
+use Rattle.std.proofs.Common.{◌≡◌, ℕ, zero, suc, ◌+◌, ◌*◌, ◌%◌, ◌<◌, ◌≤◌, Bool, true, false, ◌||◌, eqb, ltb, ◌⊎◌, List, [], ◌∷◌, length, get_or, take, sum, Option, Some, sym, refl, ap, ◌∙◌, subst, inl, inr, ⊎_elim, le_trans, mul-le-mul_right, mod-lt, zero-mul, arith, length-take-le, get_or-take}
 use Rattle.std.specs.List.{AllByRecursion}
-use Rattle.std.proofs.lemmas.List.{drop_more, drop_all, ext_get_or}
+use Rattle.std.specs.Option.{option_map}
+use Rattle.std.proofs.lemmas.List.{ext_get_or}
 use Rattle.std.proofs.ByRecursion.{All-weaker, sum_by_le}
-use Rattle.std.proofs.lemmas.Bool.{or_left, or_parts, or_cases, eq-eqb, ne_eqb, eqb-true, eqb-false, ltb-false, true≢false}
+use Rattle.std.proofs.lemmas.Bool.{or_parts, or_cases, eqb-true, eqb-false, ltb-false, true≢false}
 use Rattle.rows.specs.Lawful.{ProductRow, AllAhead, AllInOrder}
 use Rattle.rows.specs.Lists.{tuples, from, ahead_from, repeated, product_rows}
 use Rattle.rows.specs.Calls.{other_rows, positions, some_above}
-use Rattle.rows.specs.Carries.{Carried, Inside, some_empty, pool_start}
+use Rattle.rows.specs.Carries.{Carried, Inside, some_empty, pool_start, stands_at}
 use Rattle.rows.specs.Successor.{Next, Last, First}
 use Rattle.rows.proofs.Order.{Fitting}
 use Rattle.rows.proofs.Places.{fits_length, fits_below, fits_from}
-use Rattle.rows.proofs.Successor.{Listed, beginning}
+use Rattle.rows.specs.Listed.{Listed}
+use Rattle.rows.proofs.Successor.{beginning}
 use Rattle.rows.proofs.Families.{in_order, products_listed, tuples_listed, length_repeated, get_or_repeated}
 use Rattle.rows.proofs.Climbing.{nothing}
 use Rattle.rows.proofs.Standing.{ahead_all, stepped, stopped}
@@ -40,21 +42,10 @@ tuples_none ns h =
     let e = some_empty_at ns h in
     nothing (tuples ns) (All-weaker (Fitting ns) (λ y. ⊥) (λ y f. omega (arith, fits_below ns y f e.0 e.1, e.2)) (tuples ns) (tuples_listed ns).laws)
 
-pub over_none : (stop : Bool) (row ns : List ℕ) → (stop || some_empty ns) ≡ true → ahead_from stop row (tuples ns) ≡ []
+pub over_none : (w : ℕ) (stop : Bool) (xs ns : List ℕ) → (stop || some_empty ns) ≡ true → ahead_from (option_map (take w) (stands_at stop xs)) (tuples ns) ≡ []
 unfolding from
-over_none true row ns h = refl
-over_none false row ns h = ap (λ z. from row z) (tuples_none ns h)
-
--- the loop that looks for one
-pub empty_more : (ns : List ℕ) (i : ℕ) → i < length ns → (get_or ns i 0 ≡ 0 → ⊥) → some_empty (drop i ns) ≡ some_empty ns → some_empty (drop (i + 1) ns) ≡ some_empty ns
-empty_more ns i l ne e =
-    sym (ap some_empty (drop_more ns i 0 l) ∙ ap (λ b. b || some_empty (drop (i + 1) ns)) (ne_eqb (get_or ns i 0) 0 ne)) ∙ e
-
-pub empty_here : (ns : List ℕ) (i : ℕ) → i < length ns → get_or ns i 0 ≡ 0 → some_empty (drop i ns) ≡ some_empty ns → some_empty ns ≡ true
-empty_here ns i l z e = sym e ∙ ap some_empty (drop_more ns i 0 l) ∙ or_left (eqb (get_or ns i 0) 0) (some_empty (drop (i + 1) ns)) (eq-eqb (get_or ns i 0) 0 z)
-
-pub empty_nowhere : (ns : List ℕ) (i : ℕ) → length ns ≤ i → some_empty (drop i ns) ≡ some_empty ns → some_empty ns ≡ false
-empty_nowhere ns i l e = sym e ∙ ap some_empty (drop_all i ns l)
+over_none w true xs ns h = refl
+over_none w false xs ns h = ap (λ z. from (take w xs) z) (tuples_none ns h)
 
 -- ---- the rows
 
@@ -115,17 +106,17 @@ pub carried_rows : (w w' : ℕ) (lens lens' xs ys : List ℕ) (stop stop' : Bool
     → w' ≡ w → lens' ≡ lens → stop ≡ false → Inside w lens xs → (0 < w → cur + 1 ≡ w)
     → (stop' ≡ false → (cur' + 1 ≡ w') × ((j : ℕ) × Carried lens xs ys cur j))
     → (stop' ≡ true → (k : ℕ) → k ≤ cur → k < w → get_or xs k 0 + 1 ≡ get_or lens k 0)
-    → ahead_from stop' (take w' ys) (tuples (take w' lens')) ≡ other_rows (ahead_from stop (take w xs) (tuples (take w lens)))
+    → ahead_from (option_map (take w') (stands_at stop' ys)) (tuples (take w' lens')) ≡ other_rows (ahead_from (option_map (take w) (stands_at stop xs)) (tuples (take w lens)))
 carried_rows w w' lens lens' xs ys stop true cur cur' a b c ew el go law last up full =
-    stopped (Fitting (take w lens)) w (tuples (take w lens)) (tuples_taken w lens xs a b) stop xs go b (row_fits w lens xs a b law)
+    stopped (Fitting (take w lens)) w (tuples (take w lens)) (tuples_taken w lens xs a b) (stands_at stop xs) xs (ap (λ z. stands_at z xs) go) b (row_fits w lens xs a b law)
     (full_last w lens xs a b (λ k k<. full refl k (omega (arith, last (omega arith))) k<))
 carried_rows w w' lens lens' xs ys stop false cur cur' a b c ew el go law last up full =
     let u = up refl in
     let pos : 0 < w = omega (arith, u.0) in
     ap (λ z. from (take z ys) (tuples (take z lens'))) ew ∙ ap (λ z. from (take w ys) (tuples (take w z))) el
-    ∙ stepped (Fitting (take w lens)) w (tuples (take w lens)) (tuples_taken w lens xs a b) false xs ys refl b c (row_fits w lens xs a b law)
+    ∙ stepped (Fitting (take w lens)) w (tuples (take w lens)) (tuples_taken w lens xs a b) (Some xs) xs ys refl b c (row_fits w lens xs a b law)
     (carried_next w lens xs a b ys cur u.1.0 (last pos) u.1.1)
-    ∙ ap (λ z. other_rows (ahead_from z (take w xs) (tuples (take w lens)))) (sym go)
+    ∙ ap (λ z. other_rows (ahead_from (option_map (take w) (stands_at z xs)) (tuples (take w lens)))) (sym go)
 
 pub within_positions : (size : ℕ) (starts row lens : List ℕ) → ((k : ℕ) → k < length row → get_or starts k 0 + get_or lens k 0 ≤ size)
     → ((k : ℕ) → k < length row → get_or row k 0 < get_or lens k 0) → AllByRecursion (λ p. p < size) (positions starts row)
@@ -135,10 +126,10 @@ within_positions size (s ∷ ss) (p ∷ ps) [] h g = absurd (omega (arith, g 0 (
 within_positions size (s ∷ ss) (p ∷ ps) (n ∷ ns) h g =
     (omega (arith, h 0 (omega arith), g 0 (omega arith)), within_positions size ss ps ns (λ k l. h (suc k) (omega arith)) (λ k l. g (suc k) (omega arith)))
 
-pub tuples_within : (size w : ℕ) (starts lens xs : List ℕ) → w ≤ length lens → ((k : ℕ) → k < w → get_or starts k 0 + get_or lens k 0 ≤ size) → (stop : Bool) (row : List ℕ)
-    → AllByRecursion (λ y. AllByRecursion (λ p. p < size) (positions starts y)) (ahead_from stop row (tuples (take w lens)))
-tuples_within size w starts lens xs a h stop row =
-    ahead_all (λ y. AllByRecursion (λ p. p < size) (positions starts y)) stop row (tuples (take w lens))
+pub tuples_within : (size w : ℕ) (starts lens xs : List ℕ) → w ≤ length lens → ((k : ℕ) → k < w → get_or starts k 0 + get_or lens k 0 ≤ size) → (row : Option (List ℕ))
+    → AllByRecursion (λ y. AllByRecursion (λ p. p < size) (positions starts y)) (ahead_from row (tuples (take w lens)))
+tuples_within size w starts lens xs a h row =
+    ahead_all (λ y. AllByRecursion (λ p. p < size) (positions starts y)) row (tuples (take w lens))
     (All-weaker (Fitting (take w lens)) (λ y. AllByRecursion (λ p. p < size) (positions starts y))
     (λ y f.
     let len : length y ≡ w = fits_length (take w lens) y f ∙ length-take-le w lens a in
@@ -168,12 +159,12 @@ some_pool (suc m) q l = omega arith
 -- the making of a product
 module _ (lengths lens idxs : List ℕ) (q w : ℕ) (is : w ≡ length lengths * q) (a : w ≤ length lens) (b : w ≤ length idxs)
     (each : (k : ℕ) → k < w → get_or lens k 0 ≡ get_or lengths (k % length lengths) 0) (zeros : (k : ℕ) → k < w → get_or idxs k 0 ≡ 0) where
-  pub product_ahead : (stop : Bool) → stop ≡ false → AllAhead (ProductRow lengths q) (product_rows lengths q) (ahead_from stop (take w idxs) (tuples (take w lens)))
+  pub product_ahead : (stop : Bool) → stop ≡ false → AllAhead (ProductRow lengths q) (product_rows lengths q) (ahead_from (option_map (take w) (stands_at stop idxs)) (tuples (take w lens)))
   unfolding product_rows
   product_ahead stop e =
       let all : take w lens ≡ repeated q lengths = lengths_repeated q w lengths lens is a each in
       let begins : from (take w idxs) (tuples (take w lens)) ≡ tuples (take w lens) =
       beginning (Fitting (take w lens)) w (tuples (take w lens)) (tuples_taken w lens idxs a b) idxs b (zeros_first w lens idxs a b zeros) in
-      let same : ahead_from stop (take w idxs) (tuples (take w lens)) ≡ tuples (repeated q lengths) =
-      ap (λ z. ahead_from z (take w idxs) (tuples (take w lens))) e ∙ begins ∙ ap tuples all in
+      let same : ahead_from (option_map (take w) (stands_at stop idxs)) (tuples (take w lens)) ≡ tuples (repeated q lengths) =
+      ap (λ z. ahead_from (option_map (take w) (stands_at z idxs)) (tuples (take w lens))) e ∙ begins ∙ ap tuples all in
       record { exactly = same; in_order = subst (AllInOrder (ProductRow lengths q)) (sym same) (in_order (ProductRow lengths q) (length lengths * q) (tuples (repeated q lengths)) (products_listed lengths q)) }

@@ -1,14 +1,15 @@
 -- The cycles of permutations: a state of them stands at a lawful row, and a turn leads to the next one.
-use Rattle.std.proofs.Common.{◌≡◌, ℕ, zero, suc, ◌+◌, ◌-◌, ◌<◌, ◌≤◌, Bool, true, false, cond, not, eqb, ltb, List, [], ◌∷◌, ◌++◌, length, get_or, take, drop, set, Some, None, sum_by, Option, unwrap_or, sym, refl, ap, ◌∙◌, subst, ⊎_elim, arith, drop-cons}
+use Rattle.std.proofs.Common.{◌≡◌, ℕ, zero, suc, ◌+◌, ◌-◌, ◌<◌, ◌≤◌, Bool, true, false, cond, not, eqb, ltb, List, [], ◌∷◌, ◌++◌, length, get_or, take, drop, set, Some, None, sum_by, Option, unwrap_or, sym, refl, ap, ◌∙◌, subst, ⊎_elim, append_assoc, arith, drop-cons}
+use borrow.Rule.Slice.PartMut.{mid_of, put_mid}
 use Rattle.std.specs.List.{swap}
 use Rattle.std.proofs.lemmas.List.Sums.{sum_by-cons, sum_by-append, sum_by-take-drop, sum_by-set}
-use Rattle.std.proofs.lemmas.List.{length-take-le, length-drop, length-set, length-append, get_or-take, get_or-drop, get_or_append_left, get_or-append_right, get_or-set_same, get_or-set_other, take-take, drop-set-lt, ext_get_or}
+use Rattle.std.proofs.lemmas.List.{length-take-le, length-drop, length-set, length-append, get_or-take, get_or-drop, get_or_append_left, get_or-append_right, get_or-set_same, get_or-set_other, take-take, drop-set-lt, drop-take, drop-drop, ext_get_or}
 use Rattle.std.proofs.lemmas.List.Edits.{swap_is, swapped_from_swap}
 use Rattle.std.proofs.lemmas.Bool.{ltb-true, ltb-false, lt-ltb, eqb-true, eq-eqb, and_parts, and_from, or_cases, or_left, or_right, not-true, both_ways, cond-true, cond-false, cases_Bool, cases_lt, cases_eq, cases_order}
 use Rattle.rows.specs.Lawful.{PermutationRow}
 use Rattle.rows.specs.Lists.{among, differing, rising}
 use Rattle.rows.specs.Successor.{Agree, Next, Last, First}
-use Rattle.rows.specs.Cycles.{row_length, above, Cycling, rotated, Turned, Climbs, Scanned, Shifted}
+use Rattle.rows.specs.Cycles.{row_length, above, Cycling, rotated, Turned, Climbs, Scanned}
 use Rattle.rows.proofs.Places.{rising_at, rising_from, among_at, among_from, differing_at, differing_from}
 
 -- ---- how many are above a number
@@ -314,20 +315,19 @@ module _ (i n : ℕ) (xs : List ℕ) (i< : i < n) (long : n ≤ length xs) where
       let d : n + (k - n) ≡ k = omega arith in
       behind_moved k (omega arith) ∙ ap (λ z. get_or (get_or xs i 0 ∷ drop n xs) z 0) e ∙ get_or-drop n xs (k - n) 0 ∙ ap (λ z. get_or xs z 0) d
 
-  -- a rotation that has come to the end
-  pub rotated_is : (j : ℕ) (ys : List ℕ) → j ≡ n - 1 → length ys ≡ length xs → Shifted i j xs ys → set ys (n - 1) (get_or xs i 0) ≡ rotated i n xs
-  rotated_is j ys e len s =
-      ext_get_or 0 (set ys (n - 1) (get_or xs i 0)) (rotated i n xs) (omega (arith, length-set ys (n - 1) (get_or xs i 0), rotated_long))
-      (λ k l. ⊎_elim
-      (λ f. ap (λ z. get_or (set ys (n - 1) (get_or xs i 0)) z 0) f ∙ get_or-set_same ys (n - 1) (get_or xs i 0) 0 (omega arith) ∙ sym (rotated_last k (omega arith)))
-      (λ f. get_or-set_other ys (n - 1) k (get_or xs i 0) 0 f ∙ ⊎_elim
-      (λ a. s.front k a ∙ sym (rotated_front k a))
-      (λ a. ⊎_elim
-      (λ b. s.moved k a (omega arith) ∙ sym (rotated_moved k a b))
-      (λ b. s.rest k (omega arith) ∙ sym (rotated_rest k (⊎_elim (λ z. absurd (f (omega arith))) (λ z. z) (cases_lt k n))))
-      (cases_lt (suc k) n))
-      (cases_lt k i))
-      (cases_eq k (n - 1)))
+  -- the part from i to n, turned left by one
+  pub rotated_is : (ys : List ℕ) → ys ≡ drop 1 (mid_of i (n - i) xs) ++ take 1 (mid_of i (n - i) xs) → put_mid i (n - i) xs ys ≡ rotated i n xs
+  rotated_is ys e =
+      let t = drop (suc i) (take n xs) in
+      let a = get_or xs i 0 in
+      let whole : i + (n - i) ≡ n = omega arith in
+      let split : drop i (take n xs) ≡ a ∷ t =
+      drop-cons (take n xs) i 0 (omega (arith, length-take-le n xs long)) ∙ ap (λ z. z ∷ t) (get_or-take n xs i 0 i<) in
+      let part : mid_of i (n - i) xs ≡ a ∷ t = sym (drop-take i (n - i) xs) ∙ ap (λ z. drop i (take z xs)) whole ∙ split in
+      let turned : ys ≡ t ++ (a ∷ []) = e ∙ ap (λ z. drop 1 z ++ take 1 z) part in
+      let behind : drop (n - i) (drop i xs) ≡ drop n xs = drop-drop (n - i) i xs ∙ ap (λ z. drop z xs) whole in
+      ap (λ z. take i xs ++ (z ++ drop (n - i) (drop i xs))) turned ∙ ap (λ z. take i xs ++ ((t ++ (a ∷ [])) ++ z)) behind
+      ∙ ap (λ z. take i xs ++ z) (append_assoc t (a ∷ []) (drop n xs))
 
   rotated_same : Same (take n (rotated i n xs)) (take n xs)
   rotated_same f =
@@ -350,23 +350,6 @@ module _ (i n : ℕ) (xs : List ℕ) (i< : i < n) (long : n ≤ length xs) where
         ap (sum_by f) split,
         sum_by-cons f a t,
       )
-
-pub shifted_none : (i : ℕ) (xs : List ℕ) → Shifted i i xs xs
-shifted_none i xs = record { front = λ k l. refl; moved = λ k a b. absurd (omega arith); rest = λ k a. refl }
-
-pub shifted_more : (i j : ℕ) (xs ys : List ℕ) → i ≤ j → j < length ys → Shifted i j xs ys → Shifted i (j + 1) xs (set ys j (get_or ys (j + 1) 0))
-shifted_more i j xs ys a b s =
-    let v = get_or ys (j + 1) 0 in
-    record {
-      front = λ k l. get_or-set_other ys j k v 0 (λ e. omega arith) ∙ s.front k l;
-      moved = λ k c d. ⊎_elim
-          (λ e.
-          let f : j + 1 ≡ suc k = omega arith in
-          ap (λ z. get_or (set ys j v) z 0) e ∙ get_or-set_same ys j v 0 b ∙ s.rest (j + 1) (omega arith) ∙ ap (λ z. get_or xs z 0) f)
-          (λ e. get_or-set_other ys j k v 0 e ∙ s.moved k c (⊎_elim (λ z. z) (λ z. absurd (e (omega arith))) (cases_lt k j)))
-          (cases_eq k j);
-      rest = λ k l. get_or-set_other ys j k v 0 (λ e. omega arith) ∙ s.rest k (omega arith);
-    }
 
 -- ---- a turn
 

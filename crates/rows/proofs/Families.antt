@@ -6,9 +6,9 @@ use Rattle.std.proofs.ByRecursion.{all_kept_by, All-get_or, All-weaker, kept_by_
 use Rattle.std.proofs.lemmas.Bool.{cases_lt}
 use Rattle.rows.specs.Lawful.{AllInOrder, ProductRow, CombinationRow, ReplacementRow, PermutationRow}
 use Rattle.rows.specs.Lists.{tuples, rising, unfalling, differing, repeated, product_rows, combination_rows, replacement_rows, permutation_rows}
-use Rattle.rows.proofs.Order.{◌≺◌, Asc, In, all_both, asc_kept, asc_tuples, tuples_fit, in_tuples, in_kept, Fitting}
+use Rattle.rows.proofs.Order.{all_both, asc_kept, asc_tuples, tuples_fit, in_tuples, in_kept, Fitting}
 use Rattle.rows.proofs.Places.{before_from_less, fits_length, fits_below, fits_from, rising_at, rising_from, unfalling_at, unfalling_from, differing_at, differing_from}
-use Rattle.rows.proofs.Successor.{Listed}
+use Rattle.rows.specs.Listed.{◌≺◌, Asc, In, Listed}
 
 -- ---- any list that is the rows of a law
 

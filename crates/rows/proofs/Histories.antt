@@ -1,8 +1,7 @@
 -- Every history of next calls is lawful.
-use Rattle.std.proofs.Common.{◌≡◌, ℕ, zero, suc, ◌+◌, ◌-◌, ◌<◌, ◌≤◌, Bool, true, false, cond, ◌||◌, eqb, ltb, List, [], ◌∷◌, ◌++◌, length, get_or, take, drop, Some, None, Ok, Err, Option, Result, sym, refl, ap, ◌∙◌, subst, arith, length-drop}
+use Rattle.std.proofs.Common.{◌≡◌, ℕ, zero, suc, ◌+◌, ◌-◌, ◌<◌, ◌≤◌, Bool, true, false, cond, ◌||◌, eqb, ltb, List, [], ◌∷◌, ◌++◌, length, get_or, take, drop, Some, None, Ok, Err, Option, sym, refl, ap, ◌∙◌, subst, arith, length-drop}
 use Rattle.std.specs.List.{slice_get}
 use Rattle.std.proofs.lemmas.List.{get_or-drop, drop-drop}
-use Rattle.steps.specs.declared.answer.Answer.{Answer}
 use Rattle.steps.specs.declared.answer.Answer.TheVariants.{Item, End}
 use Rattle.steps.specs.declared.refusal.Refusal.{Refusal}
 use Rattle.steps.specs.Refusals.{refusal_number}
@@ -162,38 +161,6 @@ module _ {S T : Type 0} (ahead : S → List (List ℕ)) (size width : S → ℕ)
   leads_push s u t [] (x ∷ cs) b a l h = absurd l
   leads_push s u t (x ∷ bs) [] b a l h = absurd l
   leads_push s u t (x ∷ bs) (y ∷ cs) b a l h = (l.0, l.1, leads_push l.0 u t bs cs b a l.2 h)
-
--- one call that the contract of `next` speaks of, by the memory that it was lent
-pub linked_from : {S T : Type 0} (ahead : S → List (List ℕ)) (size width : S → ℕ) (starts : S → List ℕ) (s t : S) (b a : Memory T)
-    (pool : List T) (ps ps' : List ℕ) (es es' : List T) (r : Result (Answer (Unit {0})) Refusal)
-    → pool ≡ b.pool → ps ≡ b.places → es ≡ b.elements
-    → a.pool ≡ b.pool → a.places ≡ ps' → a.elements ≡ es' → a.answer ≡ Some r
-    → r ≡ answered (earned (size s) (width s) (length pool) (length ps) (length es)) (ahead s)
-    → ahead t ≡ if_given r (other_rows (ahead s)) (ahead s)
-    → ps' ≡ if_given r (at_front (first_row (ahead s)) ps) ps
-    → es' ≡ if_given r (at_front (picked pool (positions (starts s) (first_row (ahead s)))) es) es
-    → size t ≡ size s → width t ≡ width s → starts t ≡ starts s → UnlessGiven r (t ≡ s)
-    → Linked ahead size width starts s b a t
-linked_from ahead size width starts s t b a pool ps ps' es es' r p1 p2 p3 a1 a2 a3 a4 hr hl hp he hs hw hst hu =
-    let rows = ahead s in
-    let row = first_row rows in
-    let told_is : r ≡ answered (earns (size s) (width s) b) rows =
-    hr ∙ ap (λ z. answered (earned (size s) (width s) (length z) (length ps) (length es)) rows) p1
-    ∙ ap (λ z. answered (earned (size s) (width s) (length b.pool) (length z) (length es)) rows) p2
-    ∙ ap (λ z. answered (earned (size s) (width s) (length b.pool) (length b.places) (length z)) rows) p3 in
-    record {
-      lent = a1;
-      answer = a4 ∙ ap Some told_is;
-      places = a2 ∙ hp ∙ ap (λ z. if_given r (at_front row z) z) p2 ∙ ap (λ z. if_given z (at_front row b.places) b.places) told_is;
-      elements = a3 ∙ he ∙ ap (λ z. if_given r (at_front (picked z (positions (starts s) row)) es) es) p1
-          ∙ ap (λ z. if_given r (at_front (picked b.pool (positions (starts s) row)) z) z) p3
-          ∙ ap (λ z. if_given z (at_front (picked b.pool (positions (starts s) row)) b.elements) b.elements) told_is;
-      left = hl ∙ ap (λ z. if_given z (other_rows rows) rows) told_is;
-      sized = hs;
-      wide = hw;
-      starting = hst;
-      rests = subst (λ z. UnlessGiven z (t ≡ s)) told_is hu;
-    }
 
 -- two lists that are the same from i on
 pub same_ahead : {X : Type 0} (xs ys : List X) (i : ℕ) (x : X) → i < length xs → x ≡ get_or xs i x → drop i xs ≡ drop i ys → get_or ys i x ≡ x

@@ -4,18 +4,7 @@ use Rattle.std.specs.List.{AllByRecursion}
 use Rattle.std.proofs.ByRecursion.{All-append, all_kept_by, All-weaker, All-map}
 use Rattle.std.proofs.lemmas.Bool.{ltb-true, lt-ltb, le-ltb, eqb-true, eq-eqb, and_parts, and_from, or_cases, or_left, or_right, cond-true, cond-false, cases_Bool, cases_order, true≢false}
 use Rattle.rows.specs.Lists.{headed, tuples, less, from}
-
-infixl 20 ◌≺◌
-abbrev pub ◌≺◌ : List ℕ → List ℕ → Type 0
-xs ≺ ys = less xs ys ≡ true
-
-abbrev pub Asc : List (List ℕ) → Type 0
-Asc [] = Unit {0}
-Asc (x ∷ xs) = AllByRecursion (λ y. x ≺ y) xs × Asc xs
-
-abbrev pub In : List ℕ → List (List ℕ) → Type 0
-In x [] = ⊥
-In x (y ∷ ys) = (x ≡ y) ⊎ In x ys
+use Rattle.rows.specs.Listed.{◌≺◌, Asc, In}
 
 -- ---- the order
 

@@ -3,7 +3,8 @@ use Rattle.std.proofs.Common.{◌≡◌, ℕ, zero, suc, ◌+◌, ◌-◌, ◌<�
 use Rattle.std.proofs.lemmas.Bool.{ltb-true, lt-ltb, leb-true, le-leb, and_parts, and_from, true≢false, eq-eqb, eqb-true, or_cases, or_left, or_right, not-true, cases_Bool, both_ways}
 use Rattle.rows.specs.Lawful.{Before}
 use Rattle.rows.specs.Lists.{rising, unfalling, among, differing}
-use Rattle.rows.proofs.Order.{◌≺◌, less_cases, less_here, less_later, Fitting}
+use Rattle.rows.specs.Listed.{◌≺◌}
+use Rattle.rows.proofs.Order.{less_cases, less_here, less_later, Fitting}
 
 -- ---- the order
 

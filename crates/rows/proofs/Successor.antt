@@ -1,21 +1,14 @@
 -- The rows from one on, by the row that comes next, for any law.
 use Rattle.std.proofs.Common.{◌≡◌, ℕ, ◌<◌, ◌≤◌, false, List, [], ◌∷◌, length, get_or, take, sym, ap, ◌∙◌, subst, ⊎_elim, arith, length-take-le, get_or-take}
-use Rattle.std.specs.List.{AllByRecursion}
 use Rattle.std.proofs.ByRecursion.{All-weaker}
 use Rattle.std.proofs.lemmas.Bool.{cases_Bool, cases_order, cases_lt}
 use Rattle.rows.specs.Lawful.{Before}
 use Rattle.rows.specs.Lists.{less, from}
 use Rattle.rows.specs.Calls.{other_rows}
+use Rattle.rows.specs.Listed.{◌≺◌, Listed}
 use Rattle.rows.specs.Successor.{Agree, Next, Last, First}
-use Rattle.rows.proofs.Order.{◌≺◌, Asc, In, from_step, from_last, from_first, from_head}
+use Rattle.rows.proofs.Order.{from_step, from_last, from_first, from_head}
 use Rattle.rows.proofs.Places.{before_from_less, less_from_before}
-
--- the rows of a law: in ascending order, lawful, of r places, and all of them
-pub record Listed (Law : List ℕ → Type 0) (r : ℕ) (rows : List (List ℕ)) : Type 0 where
-  pub sized : (y : List ℕ) → Law y → length y ≡ r
-  pub asc : Asc rows
-  pub laws : AllByRecursion Law rows
-  pub every : (y : List ℕ) → Law y → In y rows
 
 module _ (Law : List ℕ → Type 0) (r : ℕ) (rows : List (List ℕ)) (listed : Listed Law r rows) where
   next_least : (cur next y : List ℕ) → length cur ≡ r → length next ≡ r → Next Law r cur next → Law y → cur ≺ y → less y next ≡ false

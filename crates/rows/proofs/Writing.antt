@@ -1,11 +1,10 @@
 -- What is written at the front of a lent buffer: the places of a row, and the elements that lie there.
-use Rattle.std.proofs.Common.{◌≡◌, ℕ, zero, suc, ◌+◌, ◌<◌, ◌≤◌, ◌≢◌, List, [], ◌∷◌, ◌++◌, length, get_or, take, drop, set, replicate, sym, refl, ap, ◌∙◌, subst, ⊎_elim, append_assoc, arith, length-append, length-drop, length-take, length-take-le, drop-cons, get_or-take}
-use lib.Seq.{set_at, take-length}
+use Rattle.std.proofs.Common.{◌≡◌, ℕ, zero, suc, ◌+◌, ◌<◌, ◌≤◌, List, [], ◌∷◌, ◌++◌, length, get_or, take, drop, set, replicate, sym, refl, ap, ◌∙◌, subst, append_assoc, arith, length-append, length-drop, length-take, length-take-le, drop-cons, get_or-take}
+use lib.Seq.{set_at}
 use Rattle.std.specs.List.{AllByRecursion}
-use Rattle.std.proofs.lemmas.List.{take_more, drop_more, append-nil, ext_get_or, get_or-set_same, get_or-set_other}
+use Rattle.std.proofs.lemmas.List.{take_more, drop_more, append-nil, ext_get_or}
 use Rattle.std.proofs.ByRecursion.{All-get_or, All-take}
-use Rattle.std.proofs.lemmas.Bool.{cases_lt}
-use Rattle.rows.specs.Calls.{one_at, picked, positions, at_front}
+use Rattle.rows.specs.Calls.{one_at, picked, positions}
 
 picked_append : {T : Type 0} (pool : List T) (ps qs : List ℕ) → picked pool (ps ++ qs) ≡ picked pool ps ++ picked pool qs
 picked_append pool [] qs = refl
@@ -35,13 +34,6 @@ copied_more {T} pool es ws ps i x l room within read e =
     ap (picked pool) (take_more ps i 0 l) ∙ picked_append pool (take i ps) (get_or ps i 0 ∷ []) ∙ ap (λ zs. front ++ zs) (append-nil (one_at pool (get_or ps i 0)) ∙ one) in
     left ∙ sym (ap (λ zs. zs ++ drop (i + 1) es) right ∙ append_assoc front (x ∷ []) (drop (i + 1) es))
 
-pub copied_all : {T : Type 0} (pool es ws : List T) (ps : List ℕ) (i : ℕ) → length ps ≤ i → i ≤ length ps → AllByRecursion (λ p. p < length pool) ps
-    → ws ≡ picked pool (take i ps) ++ drop i es → ws ≡ at_front (picked pool ps) es
-copied_all pool es ws ps i a b within e =
-    let end : i ≡ length ps = omega arith in
-    e ∙ ap (λ n. picked pool (take n ps) ++ drop n es) end ∙ ap (λ qs. picked pool qs ++ drop (length ps) es) (take-length ps)
-    ∙ ap (λ n. picked pool ps ++ drop n es) (sym (length_picked pool ps within))
-
 -- ---- positions
 
 pub length_positions : (starts row : List ℕ) → length row ≤ length starts → length (positions starts row) ≡ length row
@@ -66,14 +58,6 @@ positions_all starts row lying a b h =
     let len : length (take (length row) lying) ≡ length row = length-take-le (length row) lying b in
     ext_get_or 0 (take (length row) lying) (positions starts row) (len ∙ sym (length_positions starts row a))
     (λ k k<. let k<r : k < length row = omega arith in get_or-take (length row) lying k 0 k<r ∙ h k k<r ∙ sym (get_or_positions starts row k k<r a))
-
--- one more place of a list written by its index
-pub written_more : (xs : List ℕ) (j v : ℕ) (f : ℕ → ℕ) → j < length xs → ((k : ℕ) → k < j → get_or xs k 0 ≡ f k) → v ≡ f j
-    → (k : ℕ) → k < j + 1 → get_or (set xs j v) k 0 ≡ f k
-written_more xs j v f l h e k b = ⊎_elim
-    (λ lt. let ne : k ≢ j = omega arith in get_or-set_other xs j k v 0 ne ∙ h k lt)
-    (λ ge. let same : k ≡ j = omega arith in ap (λ z. get_or (set xs j v) z 0) same ∙ get_or-set_same xs j v 0 l ∙ e ∙ ap f (sym same))
-    (cases_lt k j)
 
 pub zeros_at : (n k : ℕ) → ◌≡◌ {A = ℕ} (get_or (replicate n 0) k 0) 0
 zeros_at zero k = refl

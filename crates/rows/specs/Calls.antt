@@ -1,5 +1,6 @@
 -- What a making refuses, and what one call of `next` answers, writes and leaves, by the rows ahead.
-use Rattle.std.specs.Prelude.{ℕ, ◌+◌, Bool, false, cond, ◌||◌, List, [], ◌∷◌, ◌++◌, length, take, drop, replicate, Some, None, Ok, Err, Option, Result, ◌==◌, nat_lt}
+use Rattle.std.specs.Prelude.{◌≡◌, ℕ, ◌+◌, Bool, cond, ◌||◌, List, [], ◌∷◌, ◌++◌, length, take, drop, replicate, Some, None, Ok, Err, Option, Result, ◌==◌, nat_lt}
+use Rattle.std.specs.List.{list_any}
 use Rattle.steps.specs.declared.answer.Answer.{Answer}
 use Rattle.steps.specs.declared.answer.Answer.TheVariants.{Item, End}
 use Rattle.steps.specs.Refusals.{refusal_number}
@@ -8,8 +9,7 @@ use Rattle.steps.specs.declared.refusal.Refusal.TheVariants.{PoolTooLong, RowToo
 
 -- whether one of some lengths is above a limit
 abbrev pub some_above : ℕ → List ℕ → Bool
-some_above limit [] = false
-some_above limit (n ∷ ns) = nat_lt limit n || some_above limit ns
+some_above limit lengths = list_any (λ n. nat_lt limit n) lengths
 
 -- what a making earns with pools of these lengths and rows of this many places: first the pools' lengths are looked at,
 -- each of them, then their number and the row
@@ -23,6 +23,12 @@ abbrev pub unmakable_number : ℕ → ℕ → List ℕ → ℕ → Option ℕ
 unmakable_number most_elements most_places lengths width =
     cond (some_above most_elements lengths) (Some 1)
     (cond (nat_lt most_places (length lengths) || nat_lt most_places width) (Some 2) None)
+
+-- a making with pools of these lengths and rows of this many places is refused like this, by name and by number
+abbrev pub Unmade : ℕ → ℕ → List ℕ → ℕ → Refusal → Type 0
+Unmade most_elements most_places lengths width refusal =
+    (unmakable most_elements most_places lengths width ≡ Some refusal)
+    × (unmakable_number most_elements most_places lengths width ≡ Some (refusal_number refusal))
 
 -- the answer of what looks for a reason to refuse
 abbrev pub allowed : Option Refusal → Result (Unit {0}) Refusal

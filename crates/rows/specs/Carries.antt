@@ -1,5 +1,5 @@
 -- The counter of a product: how a place is raised, where the pools start in the lent list.
-use Rattle.std.specs.Prelude.{◌≡◌, ℕ, ◌+◌, ◌%◌, ◌<◌, ◌≤◌, Bool, false, ◌||◌, List, [], ◌∷◌, map, length, take, sum, ◌==◌, slice_index, slice_index_or}
+use Rattle.std.specs.Prelude.{◌≡◌, ℕ, ◌+◌, ◌%◌, ◌<◌, ◌≤◌, Bool, true, false, ◌||◌, List, [], ◌∷◌, map, length, take, sum, Some, None, Option, ◌==◌, slice_index, slice_index_or}
 use Rattle.std.specs.List.{flat_map}
 use Rattle.rows.specs.Calls.{one_at}
 use Rattle.rows.specs.Successor.{Agree}
@@ -8,6 +8,11 @@ use Rattle.rows.specs.Successor.{Agree}
 abbrev pub some_empty : List ℕ → Bool
 some_empty [] = false
 some_empty (n ∷ ns) = n == 0 || some_empty ns
+
+-- where a counter stands: at its places, and nowhere once they have run out
+abbrev pub stands_at : Bool → List ℕ → Option (List ℕ)
+stands_at true idxs = None
+stands_at false idxs = Some idxs
 
 -- where the pool of place k, pool k mod m, starts in the list that holds the pools one after another
 abbrev pub pool_start : List ℕ → ℕ → ℕ

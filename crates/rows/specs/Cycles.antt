@@ -44,9 +44,3 @@ pub record Scanned (n r i : ℕ) (xs0 cs0 xs cs : List ℕ) : Type 0 where
   pub front : Agree i xs0 xs
   pub counts : Agree i cs0 cs
   pub out : (k : ℕ) → i ≤ k → k < r → slice_index cs0 k ≡ 1
-
--- a rotation that has come to j: those between i and j moved by one
-pub record Shifted (i j : ℕ) (before xs : List ℕ) : Type 0 where
-  pub front : Agree i xs before
-  pub moved : (k : ℕ) → i ≤ k → k < j → slice_index xs k ≡ slice_index before (suc k)
-  pub rest : (k : ℕ) → j ≤ k → slice_index xs k ≡ slice_index before k

@@ -1,8 +1,10 @@
 pub mod Lawful
 pub mod Lists
+pub mod Listed
 pub mod Calls
 pub mod Successor
 pub mod Cycles
 pub mod Raised
+pub mod Climbs
 pub mod Carries
 pub mod Runs

@@ -1,6 +1,6 @@
 -- The rows of the four kinds as lists: the tuples in lexicographic order, and what a filter keeps of them. The page
 -- describes permutations and both kinds of combinations as products that are filtered.
-use Rattle.std.specs.Prelude.{ℕ, zero, suc, Bool, true, false, not, ◌&&◌, ◌||◌, List, [], ◌∷◌, ◌++◌, map, replicate, filter, ◌==◌, nat_le, nat_lt}
+use Rattle.std.specs.Prelude.{ℕ, zero, suc, Bool, true, false, not, ◌&&◌, ◌||◌, List, [], ◌∷◌, ◌++◌, map, replicate, filter, Some, None, Option, ◌==◌, nat_le, nat_lt}
 
 -- `count` numbers from `first` on, each before each of the tails
 unfoldable pub headed : ℕ → ℕ → List (List ℕ) → List (List ℕ)
@@ -58,7 +58,7 @@ less (x ∷ xs) (y ∷ ys) = nat_lt x y || (x == y && less xs ys)
 unfoldable pub from : List ℕ → List (List ℕ) → List (List ℕ)
 from row rows = filter (λ other. not (less other row)) rows
 
--- the rows ahead of an enumerator that stands at this row, and of one that has stopped
-abbrev pub ahead_from : Bool → List ℕ → List (List ℕ) → List (List ℕ)
-ahead_from true row rows = []
-ahead_from false row rows = from row rows
+-- the rows ahead of an enumerator that stands at this row, and of one that stands at none
+abbrev pub ahead_from : Option (List ℕ) → List (List ℕ) → List (List ℕ)
+ahead_from None rows = []
+ahead_from (Some row) rows = from row rows

@@ -33,7 +33,8 @@ impl<T: Eq + Drop> Keying<T> for Itself {
     }
 }
 
-// The key of a block is its bay.
+// The key of a block is its bay. This impl and the next differ in the part of a block that is the key; a trait for such parts would take
+// an impl of its own for each, and be longer.
 #[derive(Clone, Copy, PartialEq, Eq, Debug)]
 pub struct Bay;
 

@@ -1,7 +1,9 @@
-ghost use Rattle.std.specs.Prelude.{◌≡◌};
-ghost use Rattle.sources.specs.Causes.{cause_number, Numbers};
+ghost use Rattle.std.specs.Prelude.{◌≡◌, Some};
+ghost use Rattle.sources.specs.Causes.{cause_number, CauseOf, no_cause_text};
 ghost use Rattle.sources.specs.Records.{broken};
 
+use std::error::Error;
+use std::fmt;
 use steps::Fault;
 
 // What is wrong with a record, by the number that its fault has as cause. They are looked for in this order.
@@ -39,7 +41,7 @@ impl Cause {
 impl TryFrom<u16> for Cause {
     type Error = UnknownCause;
 
-    ghost try_from_gives = { Numbers };
+    ghost try_from_gives = { CauseOf };
 
     fn try_from(number: u16) -> Result<Self, UnknownCause> {
         match number {
@@ -52,3 +54,14 @@ impl TryFrom<u16> for Cause {
         }
     }
 }
+
+impl fmt::Display for UnknownCause {
+    ghost output = { λ e. Some (no_cause_text e.0) };
+
+    fn fmt<W: fmt::Write>(&self, f: &mut fmt::Formatter<W>) -> fmt::Result {
+        let number = self.0;
+        write!(f, "no cause has the number {number}")
+    }
+}
+
+impl Error for UnknownCause {}

@@ -11,6 +11,7 @@ pub struct Range {
 }
 
 impl Range {
+    #[tactic(auto, using(crate::proofs::Counting::each_below))]
     pub fn new(start: u32, stop: u32) -> Self
         ensures ahead { ⟦<Range as Source>⟧.ahead result ≡ numbers start stop }
         ensures law { EachBelow start stop (⟦<Range as Source>⟧.ahead result) }

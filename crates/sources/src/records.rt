@@ -16,13 +16,14 @@ const DAY: u16 = 1440;
 #[derive(Drop)]
 pub struct Records<'a> {
     bytes: &'a [u8],
+    // where the next record begins, which its fault tells
     at: usize,
 }
 
 impl<'a> Records<'a> {
     pub fn new(bytes: &'a [u8]) -> Self
-        ensures ahead { records_from result.bytes.now result.at ≡ records_from bytes.now 0 }
-        ensures law { Reads 0 bytes.now (records_from result.bytes.now result.at) }
+        ensures ahead { ⟦<Records<'a> as Source>⟧.ahead result ≡ records_from bytes.now 0 }
+        ensures law { Reads 0 bytes.now (⟦<Records<'a> as Source>⟧.ahead result) }
     {
         Records { bytes, at: 0 }
     }

@@ -1,6 +1,5 @@
-use Rattle.std.proofs.Common.{sym, ap}
-use Rattle.plan.specs.Texts.{reason_of}
+use Rattle.plan.proofs.Reasons.{no_cause}
 use Rattle.plan.proofs.text.reason.Goals as goal
 
-pub returns-in-4 : goal.returns-in-4
-returns-in-4 c = sym (ap reason_of c.in-4.is)
+pub returns-in-Err : goal.returns-in-Err
+returns-in-Err c = no_cause c.args.cause c.in-Err.ensures.1

@@ -1,6 +1,7 @@
-use Rattle.std.proofs.Common.{◌∷◌, take, sym, ap, ◌∙◌, arith}
+use Rattle.std.proofs.Common.{◌∷◌, take, option_map, sym, ap, ◌∙◌}
 use Rattle.rows.specs.Lists.{tuples, ahead_from}
 use Rattle.rows.specs.Calls.{other_rows}
+use Rattle.rows.specs.Carries.{stands_at}
 use Rattle.rows.proofs.Order.{Fitting}
 use Rattle.rows.proofs.Standing.{shown}
 use Rattle.rows.proofs.Calling.{part_front}
@@ -10,14 +11,14 @@ use Rattle.products.proofs.product.ProductEnumerator.row.Goals as goal
 pub returns-then-is_over : goal.returns-then-is_over
 returns-then-is_over c =
     let k = c.args.self.now.counter in
-    over_none k.stop (take k.width k.idxs) (take k.width k.lengths) (sym c.if-is_over.ensures)
+    over_none k.width k.stop k.idxs (take k.width k.lengths) (sym c.if-is_over.ensures)
 
 pub returns : goal.returns
 returns c =
-    let s = c.args.self.now in
-    let k = s.counter in
+    let k = c.args.self.now.counter in
     let w = k.width in
-    let go = going w k.lengths k.idxs k.stop s.long (sym c.if-is_over.ensures) s.inside in
+    let go = going w k.lengths k.idxs k.stop k.long (sym c.if-is_over.ensures) k.inside in
     let rows = tuples (take w k.lengths) in
-    shown (Fitting (take w k.lengths)) w rows (tuples_taken w k.lengths k.idxs s.long (omega arith)) k.stop k.idxs go.0 (row_fits w k.lengths k.idxs s.long (omega arith) go.1)
-    ∙ ap (λ row. row ∷ other_rows (ahead_from k.stop (take w k.idxs) rows)) (sym (part_front w k.idxs))
+    shown (Fitting (take w k.lengths)) w rows (tuples_taken w k.lengths k.idxs k.long k.room) (stands_at k.stop k.idxs) k.idxs
+    (ap (λ z. stands_at z k.idxs) go.0) (row_fits w k.lengths k.idxs k.long k.room go.1)
+    ∙ ap (λ row. row ∷ other_rows (ahead_from (option_map (take w) (stands_at k.stop k.idxs)) rows)) (sym (part_front w k.idxs))

@@ -1,8 +1,0 @@
-use Rattle.rows.specs.Cycles.{Scanned}
-use Rattle.permutations.proofs.permutations.turn.Given as goal
-
-abbrev pub invariant-loop-i : goal.invariant-loop-i
-invariant-loop-i l = Scanned l.n l.r l.i l.initial.indices l.initial.cycles l.indices l.cycles
-
-abbrev pub decreases-loop-i : goal.decreases-loop-i
-decreases-loop-i l = l.i

@@ -1,8 +1,8 @@
 -- The k-th pair of pairwise and of zip_longest.
-use Rattle.std.proofs.Common.{◌≡◌, ℕ, zero, suc, List, [], ◌∷◌, map, None, sym, refl, ap, ◌∙◌, add-one, Ok, Err}
+use Rattle.std.proofs.Common.{◌≡◌, ℕ, zero, suc, List, [], ◌∷◌, map, None, sym, refl, ap, ◌∙◌, add-one, Ok}
 use Rattle.std.specs.List.{slice_get}
-use Rattle.steps.specs.Steps.{Step, first, rest}
-use Rattle.laws.specs.Pairwise.{paired, unpaired, pairs, next_old, pair_of, Neighbours}
+use Rattle.steps.specs.Steps.{Step}
+use Rattle.laws.specs.Pairwise.{paired, unpaired, pair_of, Neighbours}
 use Rattle.laws.specs.ZipLongest.{filled, zipped, wide, LongestZip}
 
 pub paired_at : {A : Type 0} (old : A) (xs : List A) (k : ℕ) → slice_get (paired old (map Ok xs)) k ≡ pair_of (slice_get (old ∷ xs) k) (slice_get xs k)
@@ -35,14 +35,3 @@ zipped_at l r (x ∷ xs) (y ∷ ys) (suc k) = zipped_at l r xs ys k
 
 pub longest_zip : {A B : Type 0} (l : A) (r : B) (ss : List (Step A)) (ts : List (Step B)) → LongestZip l r ss ts (zipped l r ss ts)
 longest_zip l r ss ts xs ys e f k = ap (λ us. slice_get (zipped l r us ts) k) e ∙ ap (λ us. slice_get (zipped l r (map Ok xs) us) k) f ∙ zipped_at l r xs ys k
-
--- the first pair of a pairwise, after its first item was drawn
-pub first_pair : {A : Type 0} (a : A) (ss : List (Step A)) → first (unpaired (Ok a ∷ ss)) ≡ first (paired a ss)
-first_pair a [] = refl
-first_pair a (Ok b ∷ ss) = refl
-first_pair a (Err f ∷ ss) = refl
-
-pub after_first_pair : {A : Type 0} (a : A) (ss : List (Step A)) → pairs (next_old None ss) (rest ss) ≡ rest (unpaired (Ok a ∷ ss))
-after_first_pair a [] = refl
-after_first_pair a (Ok b ∷ ss) = refl
-after_first_pair a (Err f ∷ ss) = refl

@@ -98,7 +98,7 @@ impl Player {
         Left(source.left()).show(&mut self.out)
     }
 
-    // The same over two sources.
+    // The same over two sources. A function of its own, since what is played takes one source or two, and says what is left of each.
     fn over_both<F>(&mut self, first: &str, second: &str, played: F) -> Result<(), Flaw>
     where
         F: FnOnce(&mut Script<'_, u64>, &mut Script<'_, u64>, &mut String) -> Result<(), Flaw>,

@@ -10,7 +10,8 @@ use std::fmt;
 use std::fmt::Write;
 use steps::{Answer, Fault, Refusal};
 
-// What has a line of its own among the answers. No Display, since most of it are types of other crates.
+// What has a line of its own among the answers. A trait of its own: `Display` cannot be written here for numbers, pairs and what other
+// crates declare, and the plan checker's `Line` writes into a formatter, where this writes into the text and may end in a flaw.
 pub trait Show {
     ghost line: { Self → List ℕ };
 

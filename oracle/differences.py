@@ -1,0 +1,277 @@
+"""The differences that are intended: each a rule that says, of a scenario, what the other program is to answer there.
+
+A rule names its entry in docs/DIFFERENCES.md and the smallest scenario that shows it. It does not say that answers may
+differ, but what they are: where a rule fits, the other's answers have to be those of the rule, and ours, as everywhere,
+those of the model. Any other difference is one too many.
+"""
+
+from collections import namedtuple
+
+import model
+from model import END
+from protocol import ENDS, MAXSIZE, SHORT_BUFFER, OTHER_POOL, Ahead, Fault, left, shown
+
+# entry: the row of docs/DIFFERENCES.md. smallest: a scenario that shows it. answers: what the other answers to a
+# scenario, or None where the rule does not fit.
+Difference = namedtuple("Difference", "entry smallest answers")
+
+# After so many calls of a source that has ended, the driver of the original holds that they have no end.
+PATIENCE = 1000
+
+
+def called(step, sources):
+    """The lines of calls until the end was said often enough, where a call may draw after an end."""
+    lines = []
+    while lines.count("end") < ENDS:
+        s = step()
+        lines.append("end" if s is END else shown(s))
+    return lines + [left(sources)]
+
+
+def called_to_an_end(step, sources):
+    """The same where nothing is drawn after the first end."""
+    return model.played(iter(step, END), sources)
+
+
+def ahead(scenario):
+    return [Ahead(listed) for listed in scenario.lists]
+
+
+def of(name, answers):
+    """A rule for the scenarios of one form."""
+
+    def told(scenario):
+        return answers(*scenario.given, *ahead(scenario)) if scenario.name == name else None
+
+    return told
+
+
+# ---------------------------------------------------------------------------------------------------
+# Limits and lent buffers, which neither of the others has
+
+
+def without_limits(refusal):
+    def told(scenario):
+        making = scenario.given[0] if scenario.given else None
+        if not hasattr(making, "refusal") or making.refusal() != refusal:
+            return None
+        return model.row_calls(making, *scenario.lists)
+
+    return told
+
+
+LIMITS = [
+    Difference("pools of more than 256 elements", "combinations 257 1 ; n", without_limits(1)),
+    Difference("more than 64 pools, or rows of more than 64 places", "combinations 3 65 ; n", without_limits(2)),
+]
+
+# A call that only we refuse is not put to the others: `answers` is how our line begins.
+UNASKED = [
+    Difference("a lent pool of another length", "combinations 3 2 ; n:4:4:4", f"refused {OTHER_POOL} "),
+    Difference("a lent buffer that is too short", "combinations 3 2 ; n:3:1:4", f"refused {SHORT_BUFFER} "),
+]
+
+
+# ---------------------------------------------------------------------------------------------------
+# The original
+
+
+def bounds_with_any_step(arguments):
+    """The bounds of a slice, where a step of 0 is taken for one of 1; None where the arguments are refused even so."""
+    if len(arguments) == 3 and arguments[2] == 0:
+        arguments = [*arguments[:2], 1]
+    return model.slice_bounds(arguments)
+
+
+def first_number(bounds, least):
+    """The first of start, start + step, .. that is at least so much."""
+    start, _, stride = bounds
+    return start + max(0, -(-(least - start) // stride)) * stride
+
+
+def step_of_nothing(arguments, source):
+    if len(arguments) != 3 or arguments[2] != 0:
+        return None
+    return sliced_to_the_next_number(arguments, source)
+
+
+def sliced_to_the_next_number(arguments, source):
+    """What is drawn reaches to the first number that is not below stop."""
+    bounds = bounds_with_any_step(arguments)
+    if bounds is None:
+        return None
+    start, stop, stride = bounds
+    drawn = None if stop is None else first_number(bounds, stop)
+    return model.played(model.islice(start, stop, stride, drawn, source), [source])
+
+
+def skipped_without_end(arguments, source):
+    """The number to skip to lies far behind the last item."""
+    bounds = bounds_with_any_step(arguments)
+    if bounds is None:
+        return None
+    items = sum(not isinstance(s, Fault) for s in source.listed)
+    stop = items if bounds[1] is None else min(items, bounds[1])
+    number = bounds[0] if arguments[2:] == [0] else first_number(bounds, stop)
+    if number - items <= PATIENCE:
+        return None
+    lines = sliced_to_the_next_number(arguments, source)
+    return [*lines[: lines.index("end")], f"endless: an ended source was asked {PATIENCE} times"]
+
+
+def selector_first(rule, items, selectors, calls=called):
+    """A selector is drawn, and then a datum whatever the selector says; nothing is drawn for a selector without a truth."""
+    says = model.nonzero(rule)
+
+    def step():
+        for selector in selectors:
+            said = selector if isinstance(selector, Fault) else says(selector)
+            if isinstance(said, Fault):
+                return said
+            item = next(items, END)
+            if said or isinstance(item, Fault):
+                return item
+        return END
+
+    return calls(step, [items, selectors])
+
+
+def selector_first_to_an_end(rule, items, selectors):
+    return selector_first(rule, items, selectors, called_to_an_end)
+
+
+def fault_of_the_selectors(rule, items, selectors):
+    met = any(isinstance(s, Fault) or s == rule.bad for s in selectors.listed)
+    return selector_first(rule, items, selectors) if met else None
+
+
+def fault_of_the_data(rule, items, selectors):
+    return selector_first(rule, items, selectors) if any(isinstance(s, Fault) for s in items.listed) else None
+
+
+ORIGINAL = [
+    *LIMITS,
+    Difference("islice with a step of 0", "islice 0,1,0 ; 1", of("islice", step_of_nothing)),
+    Difference("islice draws past its stop", "islice 0,1,2 ; 0 1", of("islice", sliced_to_the_next_number)),
+    Difference("islice asks an ended source while it skips", "islice 1001,_ ; -", of("islice", skipped_without_end)),
+    Difference("compress, a fault of the selectors", "compress nonzero ; 7 ; !1:0:0", of("compress", fault_of_the_selectors)),
+    Difference("compress, a fault of the data", "compress nonzero ; !1:0:0 ; 0", of("compress", fault_of_the_data)),
+    Difference("compress draws the selector first", "compress nonzero ; 7 ; -", of("compress", selector_first_to_an_end)),
+    Difference("compress draws after its end", "compress nonzero ; - ; 1 1", of("compress", selector_first)),
+]
+
+
+# ---------------------------------------------------------------------------------------------------
+# CPython
+
+
+def uncut(first, second):
+    return model.played((s for source in (first, second) for s in source), [first, second])
+
+
+def ended_by_a_fault(name):
+    """What the rules say up to the first fault, and then the end."""
+
+    def told(scenario):
+        if scenario.name != name:
+            return None
+        sources = ahead(scenario)
+        given = model.generator(name, scenario.given, sources)
+        if given is None or not any(isinstance(s, Fault) for listed in scenario.lists for s in listed):
+            return None
+        return model.played(up_to_a_fault(given), sources)
+
+    return told
+
+
+def up_to_a_fault(given):
+    for s in given:
+        yield s
+        if isinstance(s, Fault):
+            return
+
+
+def datum_for_every_call(rule, items, selectors):
+    """A datum is drawn by every call, also after the selectors have ended."""
+    says = model.nonzero(rule)
+
+    def step():
+        for item in items:
+            if isinstance(item, Fault):
+                return item
+            selector = next(selectors, END)
+            said = selector if selector is END or isinstance(selector, Fault) else says(selector)
+            if said is END or isinstance(said, Fault):
+                return said
+            if said:
+                return item
+        return END
+
+    return called(step, [items, selectors])
+
+
+def number_wrapped(arguments, source):
+    """Where the next number passes 2^63 - 1 and there is no stop, the number wraps to one below 0, so that the item after
+    the first is given at once, and then none within reach."""
+    bounds = model.slice_bounds(arguments)
+    if bounds is None or bounds[1] is not None or bounds[0] + bounds[2] <= MAXSIZE:
+        return None
+    start = bounds[0]
+    return model.played(up_to_a_fault(model.islice(start, start + 2, 1, None, source)), [source])
+
+
+def unbounded(joining, initial, source):
+    if joining != "sum":
+        return None
+    return model.played(model.accumulate(lambda total, item: total + item, initial, source), [source])
+
+
+CPYTHON = [
+    *LIMITS,
+    Difference("CPython's chain goes on after an exception", "chain ; !1:0:0 ; 1", of("chain", uncut)),
+    Difference("CPython's islice ends at an exception", "islice _ ; !1:0:0 1", ended_by_a_fault("islice")),
+    Difference("CPython's pairwise ends at an exception", "pairwise ; !1:0:0 1 2", ended_by_a_fault("pairwise")),
+    Difference("CPython's zip_longest ends at an exception", "zip_longest 8 8 ; !1:0:0 1 ; -", ended_by_a_fault("zip_longest")),
+    Difference("CPython's compress draws after its end", "compress nonzero ; 7 8 ; -", of("compress", datum_for_every_call)),
+    Difference("CPython's islice wraps its next number", f"islice 1,_,{MAXSIZE} ; 0 1 2", of("islice", number_wrapped)),
+    Difference("sums have 64 bits", f"accumulate sum - ; {2**64 - 1} 1", of("accumulate", unbounded)),
+]
+
+
+def smallest():
+    """The smallest scenarios of all rules, each once."""
+    return [*dict.fromkeys(rule.smallest for rule in ORIGINAL + CPYTHON + UNASKED)]
+
+
+# ---------------------------------------------------------------------------------------------------
+# Judging
+
+
+def matched(lines, theirs):
+    """The entries for the calls that were not put to the other, if all other lines are equal; else None."""
+    if len(lines) != len(theirs):
+        return None
+    entries = set()
+    for ours, other in zip(lines, theirs):
+        if other == "unasked":
+            fitting = {unasked.entry for unasked in UNASKED if ours.startswith(unasked.answers)}
+            if not fitting:
+                return None
+            entries |= fitting
+        elif ours != other:
+            return None
+    return entries
+
+
+def judged(rules, scenario, ours, theirs):
+    """The entries that account for the difference between two answers, none where there is no difference; None where
+    nothing accounts for it."""
+    entries = matched(ours, theirs)
+    if entries is not None or scenario is None:
+        return entries
+    for rule in rules:
+        lines = rule.answers(scenario)
+        entries = None if lines is None else matched(lines, theirs)
+        if entries is not None:
+            return entries | {rule.entry}
+    return None

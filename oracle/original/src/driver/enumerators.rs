@@ -1,0 +1,120 @@
+//! Enumerators. The original takes its pools at the making and answers elements, so it is made twice: over the
+//! positions, whose rows are the places, and over the elements. Both are stepped together.
+
+use super::scenario::{Enumeration, Lent};
+use super::{buffer, number, stopped, Player, Stopped, UNASKED};
+use crate::builtins::{PyList, PyTuple};
+use crate::convert::ToPyObject;
+use crate::function::FuncArgs;
+use crate::object::PyObjectRef;
+use crate::protocol::{PyIter, PyIterReturn};
+
+/// What a run can hold: places of a row and elements of a pool, and how often no pools are repeated.
+const LARGEST: u64 = 1000;
+const LONGEST: u64 = 1_000_000;
+
+impl Enumeration {
+    fn lengths(&self) -> &[u64] {
+        match self {
+            Enumeration::Product { lengths, .. } => lengths,
+            Enumeration::Chosen { n, .. } => std::slice::from_ref(n),
+        }
+    }
+
+    fn width(&self) -> u128 {
+        match self {
+            Enumeration::Product { repeat, lengths } => u128::from(*repeat) * lengths.len() as u128,
+            Enumeration::Chosen { n, r, .. } => r.unwrap_or(*n).into(),
+        }
+    }
+
+    fn can_be_run(&self) -> bool {
+        let repeats = matches!(self, Enumeration::Product { repeat, .. } if *repeat > LONGEST);
+        self.width() <= LARGEST.into()
+            && self.lengths().iter().all(|length| *length <= LARGEST)
+            && !repeats
+    }
+}
+
+impl Player {
+    pub(super) fn play_enumerator(
+        &self,
+        making: &Enumeration,
+        calls: &[Option<Lent>],
+        out: &mut String,
+    ) -> Result<(), Stopped> {
+        if !making.can_be_run() {
+            return Err(Stopped("skipped: too large to run".to_owned()));
+        }
+        let width = making.width() as u64;
+        let size = making.lengths().iter().sum();
+        let places = self.enumerator(making, |_| 0)?;
+        let elements = self.enumerator(making, |before| 1000 + before)?;
+        for lent in calls {
+            let lent = lent.unwrap_or(Lent {
+                pool: size,
+                places: width + 2,
+                elements: width + 2,
+            });
+            if lent.pool != size || lent.places < width || lent.elements < width {
+                out.push_str(UNASKED);
+                continue;
+            }
+            let (row, copied) = (self.row(&places)?, self.row(&elements)?);
+            out.push_str(if row.is_some() { "row" } else { "end" });
+            out.push_str(&buffer(
+                " places",
+                &row.unwrap_or_default(),
+                lent.places as usize,
+            ));
+            out.push_str(&buffer(
+                " elements",
+                &copied.unwrap_or_default(),
+                lent.elements as usize,
+            ));
+            out.push('\n');
+        }
+        Ok(())
+    }
+
+    /// An enumerator over pools of consecutive numbers. `first` gives the first of a pool, from how many elements lie before it.
+    fn enumerator(
+        &self,
+        making: &Enumeration,
+        first: impl Fn(u64) -> u64,
+    ) -> Result<PyObjectRef, Stopped> {
+        let vm = &self.vm;
+        let mut before = 0;
+        let mut args = FuncArgs::default();
+        for length in making.lengths() {
+            let numbers = first(before)..first(before) + length;
+            args.args.push(
+                PyList(numbers.map(|number| number.to_pyobject(vm)).collect()).to_pyobject(vm),
+            );
+            before += length;
+        }
+        let class = match making {
+            Enumeration::Product { repeat, .. } => {
+                args.kwargs.push(("repeat", repeat.to_pyobject(vm)));
+                "product"
+            }
+            Enumeration::Chosen { class, r, .. } => {
+                args.args.extend(r.map(|r| r.to_pyobject(vm)));
+                class
+            }
+        };
+        self.make(class, args).map_err(|raised| stopped(&raised))
+    }
+
+    /// The numbers of the next row, none at the end.
+    fn row(&self, enumerator: &PyObjectRef) -> Result<Option<Vec<u64>>, Stopped> {
+        match PyIter::new(enumerator.clone()).next(&self.vm) {
+            Ok(PyIterReturn::Return(row)) => {
+                let PyTuple(items) = row.payload().expect("a row is a tuple");
+                Ok(Some(items.iter().map(number).collect()))
+            }
+            Ok(PyIterReturn::StopIteration(_)) => Ok(None),
+            Err(raised) => Err(stopped(&raised)),
+        }
+    }
+}

@@ -1,25 +1,19 @@
 // What combinations and combinations with replacement have in common: rows whose places climb.
-ghost use Rattle.std.specs.Prelude.{◌≡◌, ℕ, ◌+◌, ◌-◌, ◌<◌, ◌≤◌, ◌&&◌, nat_lt, nat_le, List, [], ◌∷◌, length, take, option_map, MatchOption, MatchResult, None, ◌≢◌, slice_index};
-ghost use Rattle.std.specs.Option.{ForSome};
-ghost use Rattle.rows.specs.Calls.{unmakable, Unmade, one_start};
-ghost use Rattle.rows.specs.Runs.{LifeLaw};
-ghost use Rattle.enumerators.specs.Memories.{memories};
+ghost use Rattle.std.specs.Prelude.{◌≡◌, ℕ, ◌+◌, ◌-◌, ◌<◌, ◌≤◌, ◌&&◌, nat_lt, nat_le, List, [], ◌∷◌, length, take, option_map, MatchOption, MatchResult, None, ◌≢◌, slice_index, false, is_none};
+ghost use Rattle.rows.specs.Calls.{unmakable, Unmade, other_rows};
 ghost use Rattle.rows.specs.Lawful.{AllAhead};
-ghost use Rattle.rows.specs.Lists.{ahead_from};
 ghost use Rattle.rows.specs.Climbs.{ClimbingRow};
-ghost use Rattle.rows.proofs.Limits.{few_small};
-ghost use Rattle.rows.proofs.Standing;
-ghost use Rattle.rows.proofs.Standing.{within_one, one_start_long};
 ghost use Rattle.rows.specs.Listed.{Listed};
+ghost use Rattle.combinations.specs.Standing.{Climbs, rows_ahead};
 
-use enumerators::{Call, Choice, Enumerator, run};
+use crate::state::Climbing;
+use enumerators::Choice;
 use std::array::from_fn;
-use std::marker::PhantomData;
 use steps::Refusal;
 
 // A kind of climbing rows: how far each place has to lie above the first one. Rows that rise have to reach one more at each place, rows
 // that never fall need not.
-pub trait Climb {
+pub(crate) trait Climb {
     // how far the place of this number has to lie above the first one
     ghost above: { ℕ → ℕ };
 
@@ -45,16 +39,6 @@ pub trait Climb {
     ghost climbs: { (n r : ℕ) (row : List ℕ) → lawful n r row → ClimbingRow n r above row };
 
     ghost taken: { (n r : ℕ) (xs : List ℕ) → r ≤ length xs → ClimbingRow n r above xs → lawful n r (take r xs) };
-}
-
-// The climbing rows of `r` places below `n`. The row that `next` gives stands in `indices`, an array since memory is fixed.
-#[derive(Drop)]
-pub struct Climbing<K: Climb> {
-    choice: Choice,
-    indices: Option<[u16; 64]>,
-    kind: PhantomData<K>,
-    ghost room: { ForSome indices (λ xs. choice.r ≤ length xs) },
-    ghost climbing: { ForSome indices (λ xs. ClimbingRow choice.n choice.r K.above xs) },
 }
 
 // There is no row where the last place does not fit though all are as low as they can be.
@@ -99,79 +83,44 @@ fn raise<K: Climb>(choice: Choice, indices: &mut [u16; 64], i: usize)
     }
 }
 
-impl<K: Climb> Climbing<K> {
-    // The climbing rows of `r` places from a pool of `n` elements.
-    pub fn new(n: usize, r: usize) -> Result<Climbing<K>, Refusal>
+impl Climbing {
+    // Stands at the first of the climbing rows of `r` places from a pool of `n` elements.
+    pub(crate) fn new<K: Climb>(n: usize, r: usize) -> Result<Climbing, Refusal>
         ensures { MatchResult result
-            (λ e. (unmakable 256 64 (n ∷ []) r ≡ None)
-            × (⟦<Climbing<K> as Enumerator>⟧.size e ≡ n) × (⟦<Climbing<K> as Enumerator>⟧.width e ≡ r)
-            × AllAhead (K.lawful n r) (K.rows n r) (⟦<Climbing<K> as Enumerator>⟧.ahead e))
+            (λ s. (unmakable 256 64 (n ∷ []) r ≡ None) × (s.choice.n ≡ n) × (s.choice.r ≡ r) × Climbs K.above s
+            × AllAhead (K.lawful n r) (K.rows n r) (rows_ahead K.rows s))
             (λ refusal. Unmade 256 64 (n ∷ []) r refusal) }
     {
         let choice = Choice::new(n, r)?;
         Ok(Climbing {
             choice,
             indices: first_row::<K>(choice),
-            kind: PhantomData,
         })
     }
 
-    // Makes the enumerator, and then all the calls on it: a history since the making.
-    pub fn run_calls<T: Copy>(n: usize, r: usize, calls: &mut [Call<T>]) -> Result<usize, Refusal>
-        ensures { MatchResult result
-            (λ count. (unmakable 256 64 (n ∷ []) r ≡ None) × (count ≡ length calls.old)
-            × LifeLaw (K.lawful n r) n r (one_start 64) (memories calls.old) (memories calls.new))
-            (λ refusal. Unmade 256 64 (n ∷ []) r refusal × (calls.new ≡ calls.old)) }
+    // Whether no row is left.
+    pub(crate) fn is_over(&self) -> bool
+        ensures { result ≡ is_none self.now.indices }
     {
-        let mut enumerator = Climbing::<K>::new(n, r)?;
-        Ok(run(&mut enumerator, calls))
-    }
-}
-
-impl<K: Climb> Enumerator for Climbing<K> {
-    ghost ahead = { λ s. ahead_from (option_map (take s.choice.r) s.indices) (K.rows s.choice.n s.choice.r) };
-
-    ghost size = { λ s. s.choice.n };
-
-    ghost width = { λ s. s.choice.r };
-
-    ghost starts = { λ _. one_start 64 };
-
-    ghost uniform = { λ s.
-        let n = s.choice.n in
-        let r = s.choice.r in
-        Standing.uniform (K.lawful n r) r (K.rows n r) (K.listed n r) (option_map (take r) s.indices) };
-
-    ghost within = { λ s.
-        let n = s.choice.n in
-        let r = s.choice.r in
-        within_one (K.lawful n r) r (K.rows n r) (K.listed n r) 64 n s.choice.short (λ row law. (K.climbs n r row law).below) (option_map (take r) s.indices) };
-
-    ghost reaching = { λ s. one_start_long 64 s.choice.r s.choice.short };
-
-    ghost short = { λ s. s.choice.short };
-
-    ghost small = { λ s. few_small s.choice.n s.choice.few };
-
-    fn pool_len(&self) -> usize {
-        self.choice.n
+        self.indices.is_none()
     }
 
-    fn row_len(&self) -> usize {
-        self.choice.r
-    }
-
-    #[tactic(auto, unfolding(rows::specs::Calls::one_start))]
-    fn pool_starts(&self) -> [u16; 64] {
-        [0; 64]
-    }
-
-    fn row(&self) -> Option<&[u16]> {
+    pub(crate) fn row<K: Climb>(&self) -> Option<&[u16]>
+        requires { Climbs K.above self.now }
+        ensures { MatchOption result (rows_ahead K.rows self.now ≡ []) (λ row. rows_ahead K.rows self.now ≡ row.now ∷ other_rows (rows_ahead K.rows self.now)) }
+    {
         let indices = self.indices.as_ref()?;
         Some(&indices[0..self.choice.r])
     }
 
-    fn advance(&mut self) {
+    // Leaves the row behind at which it stands.
+    pub(crate) fn advance<K: Climb>(&mut self)
+        requires { Climbs K.above self.old }
+        ensures rows { rows_ahead K.rows self.new ≡ other_rows (rows_ahead K.rows self.old) }
+        ensures climbs { Climbs K.above self.new }
+        ensures chosen { self.new.choice ≡ self.old.choice }
+        ensures stood { is_none self.old.indices ≡ false → rows_ahead K.rows self.old ≢ [] }
+    {
         let choice = self.choice;
         let Some(indices) = &mut self.indices else {
             return;

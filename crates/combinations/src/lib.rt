@@ -5,7 +5,7 @@
 mod climbing;
 mod combinations;
 mod replacement;
+mod state;
 
-pub use climbing::{Climb, Climbing};
-pub use combinations::{Combinations, Rising};
-pub use replacement::{CombinationsWithReplacement, Level};
+pub use combinations::Combinations;
+pub use replacement::CombinationsWithReplacement;

@@ -30,6 +30,7 @@ impl Permutations {
         ensures { MatchResult result
             (λ e. (unmakable 256 64 (n ∷ []) (row_length n r) ≡ None)
             × (⟦<Permutations as Enumerator>⟧.size e ≡ n) × (⟦<Permutations as Enumerator>⟧.width e ≡ row_length n r)
+            × (⟦<Permutations as Enumerator>⟧.starts e ≡ one_start 64)
             × AllAhead (PermutationRow n (row_length n r)) (permutation_rows n (row_length n r)) (⟦<Permutations as Enumerator>⟧.ahead e))
             (λ refusal. Unmade 256 64 (n ∷ []) (row_length n r) refusal) }
     {

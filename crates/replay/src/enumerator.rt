@@ -4,7 +4,7 @@ use crate::flaw::Flaw;
 use crate::form::{lengths, number, number32, optional, triple};
 use crate::play::Player;
 use crate::show::{Show, show_calls};
-use combinations::{Climb, Climbing};
+use combinations::{Combinations, CombinationsWithReplacement};
 use enumerators::{Call, Enumerator, run};
 use permutations::Permutations;
 use products::Product;
@@ -28,9 +28,15 @@ impl Player {
         self.make_calls(Product::new(lengths.as_slice(), repeat), calls)
     }
 
-    // `combinations N R ; CALLS` and `replacement N R ; CALLS`
-    pub fn climbing<K: Climb>(&mut self, n: &str, r: &str, calls: &str) -> Result<(), Flaw> {
-        let made = Climbing::<K>::new(number(n)? as usize, number(r)? as usize);
+    // `combinations N R ; CALLS`
+    pub fn combinations(&mut self, n: &str, r: &str, calls: &str) -> Result<(), Flaw> {
+        let made = Combinations::new(number(n)? as usize, number(r)? as usize);
+        self.make_calls(made, calls)
+    }
+
+    // `replacement N R ; CALLS`
+    pub fn replacement(&mut self, n: &str, r: &str, calls: &str) -> Result<(), Flaw> {
+        let made = CombinationsWithReplacement::new(number(n)? as usize, number(r)? as usize);
         self.make_calls(made, calls)
     }
 

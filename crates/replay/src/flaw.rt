@@ -1,3 +1,6 @@
+ghost use Rattle.std.specs.Prelude.{◌≡◌};
+ghost use Rattle.replay.specs.declared.flaw.Flaw.TheVariants.{Memory};
+
 use std::alloc::{AllocError, AllocFailed};
 use std::num::{ParseIntError, TryFromIntError};
 use std::{fmt, io};
@@ -15,12 +18,16 @@ pub enum Flaw {
 
 // Written out, not derived by thiserror: most of these drop what they are made from, and a flaw has no text of its own.
 impl From<AllocError> for Flaw {
+    ghost from_gives = { λ _ flaw. flaw ≡ Memory };
+
     fn from(_error: AllocError) -> Flaw {
         Flaw::Memory
     }
 }
 
 impl<T: Drop> From<AllocFailed<T>> for Flaw {
+    ghost from_gives = { λ _ flaw. flaw ≡ Memory };
+
     fn from(_error: AllocFailed<T>) -> Flaw {
         Flaw::Memory
     }
@@ -28,6 +35,8 @@ impl<T: Drop> From<AllocFailed<T>> for Flaw {
 
 // Text is written to strings only, so that a failed write is a lack of memory.
 impl From<fmt::Error> for Flaw {
+    ghost from_gives = { λ _ flaw. flaw ≡ Memory };
+
     fn from(_error: fmt::Error) -> Flaw {
         Flaw::Memory
     }

@@ -1,5 +1,6 @@
 // The calls of a scenario on a source.
-ghost use Rattle.std.specs.Prelude.{◌≡◌, ◌++◌, IfOk, string_bytes, OnOk};
+ghost use Rattle.std.specs.Prelude.{◌≡◌, ◌++◌, MatchResult, string_bytes};
+ghost use Rattle.replay.specs.declared.flaw.Flaw.TheVariants.{Memory};
 ghost use Rattle.replay.specs.Lines.{says_end, answer_line, transcript};
 ghost use Rattle.steps.specs.Steps.{first, rest};
 
@@ -25,7 +26,7 @@ pub struct Player {
 fn call<S: Source>(source: &mut S, out: &mut String) -> Result<bool, Flaw>
 where
     S::Item: Show,
-    ensures writes { IfOk result (λ ended. (ended ≡ says_end (first (S.Source.ahead source.old))) × (string_bytes out.new ≡ string_bytes out.old ++ answer_line S.Item.Show.line (first (S.Source.ahead source.old)))) }
+    ensures unless_out_of_memory { MatchResult result (λ ended. (ended ≡ says_end (first (S.Source.ahead source.old))) × (string_bytes out.new ≡ string_bytes out.old ++ answer_line S.Item.Show.line (first (S.Source.ahead source.old)))) (λ flaw. flaw ≡ Memory) }
     ensures leaves { S.Source.ahead source.new ≡ rest (S.Source.ahead source.old) }
 {
     match source.next() {
@@ -44,7 +45,7 @@ where
 pub fn play<S: Source>(source: &mut S, out: &mut String) -> Result<(), Flaw>
 where
     S::Item: Show,
-    ensures { OnOk result (string_bytes out.new ≡ string_bytes out.old ++ transcript S.Item.Show.line 3 (S.Source.ahead source.old)) }
+    ensures unless_out_of_memory { MatchResult result (λ _. string_bytes out.new ≡ string_bytes out.old ++ transcript S.Item.Show.line 3 (S.Source.ahead source.old)) (λ flaw. flaw ≡ Memory) }
 {
     for _ in 0..ENDS {
         while !call(source, out)? {}

@@ -5,7 +5,6 @@ ghost use Rattle.replay.specs.Forms.{silent};
 use crate::flaw::Flaw;
 use crate::form::{parts, words};
 use crate::play::Player;
-use combinations::{Level, Rising};
 use std::alloc::{AllocError, Global};
 use std::io;
 
@@ -71,8 +70,8 @@ impl Player {
     fn play_calls(&mut self, head: &[&str], parts: &[&str]) -> Result<(), Flaw> {
         match (head, parts) {
             (["product", repeat, pools], [calls]) => self.product(repeat, pools, calls),
-            (["combinations", n, r], [calls]) => self.climbing::<Rising>(n, r, calls),
-            (["replacement", n, r], [calls]) => self.climbing::<Level>(n, r, calls),
+            (["combinations", n, r], [calls]) => self.combinations(n, r, calls),
+            (["replacement", n, r], [calls]) => self.replacement(n, r, calls),
             (["permutations", n, r], [calls]) => self.permutations(n, r, calls),
             _ => Err(Flaw::Form),
         }

@@ -1,5 +1,6 @@
 // The text of answers, each on a line of its own.
-ghost use Rattle.std.specs.Prelude.{◌≡◌, ℕ, List, ◌++◌, Some, string_bytes, decimal, OnOk, refl};
+ghost use Rattle.std.specs.Prelude.{◌≡◌, ℕ, List, ◌++◌, Some, string_bytes, decimal, MatchResult, refl};
+ghost use Rattle.replay.specs.declared.flaw.Flaw.TheVariants.{Memory};
 ghost use Rattle.replay.specs.Lines.{item_line, pair_line, block_line, fault_line, refused_line, left_line, both_left_line, row_word, each, spaced, call_line};
 ghost use Rattle.steps.specs.Refusals.{refusal_number};
 
@@ -17,7 +18,7 @@ pub trait Show {
 
     // Writes the line behind the text so far.
     fn show(self, out: &mut String) -> Result<(), Flaw>
-        ensures { OnOk result (string_bytes out.new ≡ string_bytes out.old ++ line self) };
+        ensures unless_out_of_memory { MatchResult result (λ _. string_bytes out.new ≡ string_bytes out.old ++ line self) (λ flaw. flaw ≡ Memory) };
 }
 
 impl Show for u64 {
@@ -111,7 +112,7 @@ impl Show for &Call<u64> {
 
 // The calls that were made on an enumerator, a line for each.
 pub fn show_calls(calls: &[Call<u64>], out: &mut String) -> Result<(), Flaw>
-    ensures { OnOk result (string_bytes out.new ≡ string_bytes out.old ++ each call_line calls.now) }
+    ensures unless_out_of_memory { MatchResult result (λ _. string_bytes out.new ≡ string_bytes out.old ++ each call_line calls.now) (λ flaw. flaw ≡ Memory) }
 {
     for call in calls {
         call.show(out)?;

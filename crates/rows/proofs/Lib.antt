@@ -12,3 +12,4 @@ pub mod Standing
 pub mod Choosing
 pub mod Carries
 pub mod Pools
+pub mod Written

@@ -8,3 +8,4 @@ pub mod Raised
 pub mod Climbs
 pub mod Carries
 pub mod Runs
+pub mod Written

@@ -7,7 +7,6 @@ ghost use Rattle.trials.specs.Examples.{WorkedExamples};
 
 #[cfg(test)]
 mod adapters_run;
-mod climbing;
 #[cfg(test)]
 mod enumerators_run;
 mod keys;
@@ -16,7 +15,6 @@ mod plans_run;
 #[cfg(test)]
 mod records_run;
 
-pub use climbing::{make_combinations, make_replacement, run_combinations, run_replacement};
 pub use keys::{is_same_block, is_same_number};
 use steps::Fault;
 

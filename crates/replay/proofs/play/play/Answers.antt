@@ -12,7 +12,7 @@ loop-preserved g c =
     let ts = g.S.Source.ahead c.call.new.source in
     let whole = string_bytes c.args.out.now ++ transcript line 3 (g.S.Source.ahead c.args.source.now) in
     let few : c.loop.counter < 3 = omega (arith, c.loop-test.true) in
-    let wrote = c.in_ok-call.ensures.writes in
+    let wrote = c.in_ok-call.ensures.unless_out_of_memory in
     let stops : says_end (first ss) ≡ true = sym wrote.0 ∙ c.if-not-branch.false in
     let leaves = c.call.ensures.leaves in
     record {

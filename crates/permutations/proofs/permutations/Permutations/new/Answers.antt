@@ -1,4 +1,4 @@
-use Rattle.std.proofs.Common.{◌≡◌, ℕ, ◌-◌, ◌<◌, ◌≤◌, ◌∷◌, [], length, get_or, take, Option, Some, None, MatchOption, option_map, ◌∙◌, sym, ap, subst, arith}
+use Rattle.std.proofs.Common.{◌≡◌, ℕ, ◌-◌, ◌<◌, ◌≤◌, ◌∷◌, [], length, get_or, take, Option, Some, None, MatchOption, option_map, ◌∙◌, sym, refl, ap, subst, arith}
 use Rattle.rows.specs.Lawful.{PermutationRow, AllAhead}
 use Rattle.rows.specs.Lists.{permutation_rows, ahead_from}
 use Rattle.rows.specs.Successor.{First}
@@ -42,6 +42,7 @@ returns c =
       ap (unmakable 256 64 (c.args.n ∷ [])) (sym places) ∙ made.0,
       made.1,
       made.2 ∙ places,
+      refl,
       subst (λ z. AllAhead (PermutationRow c.args.n z) (permutation_rows c.args.n z) ahead) (made.2 ∙ places)
           (subst (λ z. AllAhead (PermutationRow z r) (permutation_rows z r) ahead) made.1 all),
     )

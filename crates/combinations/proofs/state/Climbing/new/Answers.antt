@@ -1,0 +1,46 @@
+use Rattle.std.proofs.Common.{◌≡◌, ℕ, ◌-◌, ◌<◌, ◌≤◌, List, [], length, get_or, take, Option, Some, None, MatchOption, option_map, subst, arith, rules}
+use Rattle.std.specs.Option.{ForSome}
+use Rattle.std.proofs.lemmas.Option.{same_Some}
+use Rattle.rows.specs.Lawful.{AllAhead}
+use Rattle.rows.specs.Lists.{ahead_from}
+use Rattle.rows.specs.Successor.{First}
+use Rattle.rows.specs.Climbs.{ClimbingRow}
+use Rattle.rows.proofs.Climbing.{low_first, no_row}
+use Rattle.rows.specs.Listed.{Listed}
+use Rattle.rows.proofs.Standing.{all_ahead}
+use Rattle.combinations.proofs.state.Climbing.new.Goals as goal
+
+-- what `first_row` answers, where there are `most` places in all
+module _ (n r : ℕ) (above : ℕ → ℕ) (most : ℕ) (short : r ≤ most) where
+  abbrev Lowest : Option (List ℕ) → Type 0
+  Lowest at = MatchOption at ((0 < r) × (n ≤ above (r - 1))) (λ xs. (0 < r → above (r - 1) < n) × (length xs ≡ most) × ((k : ℕ) → k < most → get_or xs k 0 ≡ above k))
+
+  begins : {rows : List (List ℕ)} {Law : List ℕ → Type 0} → Listed Law r rows → ((y : List ℕ) → Law y → ClimbingRow n r above y) → above 0 ≡ 0
+      → (at : Option (List ℕ)) → Lowest at → MatchOption at (rows ≡ []) (λ xs. (r ≤ length xs) × First Law r xs)
+  begins {rows} {Law} listed climbs zero None h = no_row n r above Law climbs rows listed zero h.0 h.1
+  begins {rows} {Law} listed climbs zero (Some xs) h = (omega (arith, h.1), low_first n r above Law climbs zero xs (λ k k<. h.2 k (omega arith)))
+
+  climbs_first : ((i k : ℕ) → i ≤ k → above i ≤ above k) → (at : Option (List ℕ)) → Lowest at → ForSome at (λ xs. ClimbingRow n r above xs)
+  climbs_first mono None h = λ ys e. search rules
+  climbs_first mono (Some xs) h = λ ys e. subst (ClimbingRow n r above) (same_Some xs ys e) (record {
+    below = λ k k<. omega (arith, h.2 k (omega arith), mono k (r - 1) (omega arith), h.0 (omega arith));
+    apart = λ i k i≤k k<. omega (arith, h.2 i (omega arith), h.2 k (omega arith));
+  })
+
+pub returns : goal.returns
+returns g c =
+    let choice = c.in_ok-choice.choice in
+    let n = choice.n in
+    let r = choice.r in
+    let K = g.K.Climb in
+    let met = g.met.K.Climb in
+    let made = c.in_ok-choice.ensures in
+    let ahead = ahead_from (option_map (take r) c.first_row.result) (K.rows n r) in
+    let all : AllAhead (K.lawful n r) (K.rows n r) ahead = all_ahead (K.lawful n r) r (K.rows n r) (met.listed n r) c.first_row.result
+    (begins n r K.above 64 choice.short (met.listed n r) (met.climbs n r) met.from_zero c.first_row.result c.first_row.ensures) in (
+      made.0,
+      made.1,
+      made.2,
+      climbs_first n r K.above 64 choice.short met.unfalling c.first_row.result c.first_row.ensures,
+      subst (λ z. AllAhead (K.lawful c.args.n z) (K.rows c.args.n z) ahead) made.2 (subst (λ z. AllAhead (K.lawful z r) (K.rows z r) ahead) made.1 all),
+    )

@@ -10,6 +10,7 @@ is in docs/DIFFERENCES.md, and the sample holds what the original answers.
 
 import argparse
 import os
+import shutil
 import subprocess
 import sys
 import time
@@ -213,7 +214,13 @@ def arguments():
     ways = parser.add_mutually_exclusive_group()
     ways.add_argument("--try", dest="tried", action="store_true", help="run replay as `rt try` does, without its proof, on a part of the scenarios")
     ways.add_argument("--sample", action="store_true", help="choose the sample of the original's answers anew, and write it")
-    return parser.parse_args()
+    chosen = parser.parse_args()
+    if not (chosen.folder / "src" / "stdlib" / "itertools.rs").is_file():
+        parser.error(f"{chosen.folder} does not hold src/stdlib/itertools.rs")
+    for program in ("cargo", "rt"):
+        if shutil.which(program) is None:
+            parser.error(f"{program} is wanted on the path")
+    return chosen
 
 
 def main():

@@ -9,6 +9,7 @@ is in docs/DIFFERENCES.md, and the sample holds what the original answers.
 """
 
 import argparse
+import hashlib
 import os
 import shutil
 import subprocess
@@ -21,7 +22,7 @@ import differences
 import generator
 import model
 import sample
-from protocol import Bad, read
+from protocol import UNASKED, Bad, read
 
 ROOT = Path(__file__).resolve().parent.parent
 ORACLE = ROOT / "oracle"
@@ -37,9 +38,19 @@ SHOWN = 10
 # One in so many, for replay without its proof: `rt try` gives at most 1 MiB of answers.
 THINNED = 60
 
+# So many have to be compared beside each, and so many of the calls that replay does not play yet.
 LEAST = 100_000
+LEAST_LATER = 30_000
 
-OTHERS = {"the original": differences.ORIGINAL, "CPython": differences.CPYTHON}
+ORIGINAL = "the original"
+
+OTHERS = {ORIGINAL: differences.ORIGINAL, "CPython": differences.CPYTHON}
+
+# The original's two files, as rustpython-vm 0.4.0 has them.
+PUBLISHED = {
+    "src/stdlib/itertools.rs": "da80d687a9ed64eb9e7a3be9fa4cd79eafd3247d812fa09259f48e3fa0bda9bd",
+    "src/protocol/iter.rs": "e60b57db0cf847eebf0c48f7fb594bb663fdaea95f5a62f82d58d046761733a7",
+}
 
 # ---------------------------------------------------------------------------------------------------
 # Building and running
@@ -102,44 +113,56 @@ class Account:
     def __init__(self):
         self.scenarios = 0
         self.compared = 0
+        self.bad = 0
         self.judged = Counter()
+        self.unasked = Counter()
         self.skipped = {name: Counter() for name in OTHERS}
         self.fired = {name: defaultdict(list) for name in OTHERS}
         self.differing = []
 
     def add(self, line, owed, ours, others):
-        """Our answers beside those of the model and of the others."""
+        """Our answers beside those of the model, and what the others told beside what is foretold of them."""
         scenario = scenario_of(line)
         wrong = ["the model"] if ours != owed else []
-        beside = 0
-        for name, theirs in others.items():
-            if theirs[-1:] and theirs[-1].startswith("skipped: "):
-                self.skipped[name][theirs[-1].removeprefix("skipped: ")] += 1
-                continue
-            beside += 1
-            self.judged[name] += 1
-            entries = differences.judged(OTHERS[name], scenario, ours, theirs)
-            if entries is None:
-                wrong.append(name)
-            for entry in entries or ():
-                self.fired[name][entry].append(line.decode())
+        wrong += [name for name, theirs in others.items() if not self.is_foretold(name, line, scenario, ours, theirs)]
         self.scenarios += 1
-        self.compared += beside > 0
+        self.bad += scenario is None
+        self.compared += scenario is not None and any(is_an_answer(theirs) for theirs in others.values())
         if wrong:
             self.differing.append((line, wrong, {"replay": ours, "the model": owed} | others))
+
+    def is_foretold(self, name, line, scenario, ours, theirs):
+        if scenario is None:
+            return theirs == ours
+        reason = differences.reason_to_skip(scenario, name == ORIGINAL)
+        if reason is not None:
+            self.skipped[name][reason] += 1
+            return theirs == [f"skipped: {reason}"]
+        self.judged[name] += is_an_answer(theirs)
+        self.unasked[name] += not is_an_answer(theirs)
+        lines, entries = differences.foretold(OTHERS[name], scenario, ours)
+        for entry in entries:
+            self.fired[name][entry].append(line.decode())
+        return theirs == lines
 
     def report(self):
         for line, wrong, told in self.differing[:SHOWN]:
             print(f"differs from {' and '.join(wrong)}: {line.decode('latin-1')}")
             for name, lines in told.items():
                 print(f"    {name}: {', '.join(lines)}")
+        print(f"lines that are not of a form, which all have to call so: {self.bad:,}")
         for name in OTHERS:
             reasons = ", ".join(f"{reason}: {count:,}" for reason, count in self.skipped[name].most_common())
             skipped = sum(self.skipped[name].values())
-            print(f"{name}: {self.judged[name]:,} compared, {skipped:,} skipped ({reasons or 'none'})")
+            print(f"{name}: {self.judged[name]:,} compared, {self.unasked[name]:,} of refused calls alone, {skipped:,} skipped ({reasons})")
         for name in OTHERS:
             for entry, lines in sorted(self.fired[name].items(), key=lambda fired: -len(fired[1])):
                 print(f"intended, beside {name}: {entry}: {len(lines):,} times, as in {min(lines, key=len)}")
+
+
+def is_an_answer(lines):
+    """Whether something was answered, and not only that it was not asked."""
+    return not all(line == UNASKED or line.startswith("skipped: ") for line in lines)
 
 
 def scenario_of(line):
@@ -152,14 +175,13 @@ def scenario_of(line):
 
 def unshown(account):
     """The intended differences that did not show themselves by their smallest scenario, or that the documents lack."""
-    documented = (ROOT / "docs" / "DIFFERENCES.md").read_text()
+    rows = [line for line in (ROOT / "docs" / "DIFFERENCES.md").read_text().splitlines() if line.startswith("|")]
     for name, rules in OTHERS.items():
-        for rule in rules + differences.UNASKED:
+        for rule in rules + differences.REFUSED:
             if rule.smallest not in account.fired[name][rule.entry]:
                 yield f"{rule.entry}: not shown by {rule.smallest} beside {name}"
-            for text in (f"| {rule.entry} |", f"`{rule.smallest}`"):
-                if text not in documented:
-                    yield f"{rule.entry}: docs/DIFFERENCES.md does not have {text}"
+            if not any(row.startswith(f"| {rule.entry} | `{rule.smallest}` |") for row in rows):
+                yield f"{rule.entry}: no row of docs/DIFFERENCES.md has it with {rule.smallest}"
 
 
 def smallest():
@@ -187,25 +209,27 @@ def compared(programs, lines):
 
 
 def compared_later(programs):
-    """Plays the scenarios that replay does not play yet on the two others, and tells how many of them differ."""
-    lines = generator.later()
+    """Plays the scenarios that replay does not play yet on the two others: how many were compared, and how many differ."""
+    lines = [line for line in generator.later() if differences.reason_to_skip(read(line), original=True) is None]
     _, told = run_all({name: programs[name] for name in OTHERS}, lines)
-    both = [(line, answers) for line, *answers in zip(lines, *told.values()) if not any(a[-1].startswith("skipped: ") for a in answers)]
-    differing = [(line, answers) for line, answers in both if answers[0] != answers[1]]
+    differing = [(line, answers) for line, *answers in zip(lines, *told.values()) if answers[0] != answers[1]]
     for line, answers in differing[:SHOWN]:
         print(f"differs between {' and '.join(OTHERS)}: {line.decode()}: {answers}")
-    print(f"tee and groupby, which replay does not play yet: {len(both):,} compared between the other two, {len(differing)} differ")
-    return len(differing)
+    print(f"tee and groupby, which replay does not play yet: {len(lines):,} compared between the other two, {len(differing)} differ")
+    return len(lines), len(differing)
 
 
-def wrong_beside(account, original, all_were_run):
+def wrong_beside(account, later, original, all_were_run):
     """What else is wrong: rules that did not show themselves, a stale sample, stale answers of the gate, too few scenarios."""
     yield from unshown(account)
     yield from sample.stale(original)
     if subprocess.run([sys.executable, ROOT / "tools" / "scenarios.py", "--check"]).returncode != 0:
         yield "crates/replay/stdin and stdout are not as tools/scenarios.py writes them"
-    if all_were_run and account.compared < LEAST:
-        yield f"only {account.compared:,} scenarios were compared"
+    if later < LEAST_LATER:
+        yield f"only {later:,} scenarios of tee and groupby were compared"
+    for name in OTHERS:
+        if all_were_run and account.judged[name] < LEAST:
+            yield f"only {account.judged[name]:,} scenarios were compared beside {name}"
 
 
 def arguments():
@@ -215,8 +239,12 @@ def arguments():
     ways.add_argument("--try", dest="tried", action="store_true", help="run replay as `rt try` does, without its proof, on a part of the scenarios")
     ways.add_argument("--sample", action="store_true", help="choose the sample of the original's answers anew, and write it")
     chosen = parser.parse_args()
-    if not (chosen.folder / "src" / "stdlib" / "itertools.rs").is_file():
-        parser.error(f"{chosen.folder} does not hold src/stdlib/itertools.rs")
+    for name, published in PUBLISHED.items():
+        file = chosen.folder / name
+        if not file.is_file():
+            parser.error(f"{chosen.folder} does not hold {name}")
+        if hashlib.sha256(file.read_bytes()).hexdigest() != published:
+            parser.error(f"{file} is not that of rustpython-vm 0.4.0")
     for program in ("cargo", "rt"):
         if shutil.which(program) is None:
             parser.error(f"{program} is wanted on the path")
@@ -239,13 +267,14 @@ def main():
         print("proving and building replay", flush=True)
     programs = {
         "replay": ["rt", "try"] if chosen.tried else build_replay(),
-        "the original": original,
+        ORIGINAL: original,
         "CPython": [sys.executable, ORACLE / "cpython.py"],
     }
     account = compared(programs, lines)
     account.report()
-    differing = len(account.differing) + compared_later(programs)
-    wrong = [*wrong_beside(account, original, not chosen.tried)]
+    later, differing_later = compared_later(programs)
+    differing = len(account.differing) + differing_later
+    wrong = [*wrong_beside(account, later, original, not chosen.tried)]
     for line in wrong:
         print(f"wrong: {line}")
     print(f"{account.compared} compared, {differing} differ")

@@ -10,16 +10,8 @@ import operator
 import sys
 
 from protocol import (
-    ENDS, ENUMERATORS, KEY_FAULT, PREDICATE_FAULT, SLICE, Ahead, Fault, answer_line, is_silent, left, shown, told,
+    BRANCHES, ENDS, ENUMERATORS, KEY_FAULT, LARGEST, PREDICATE_FAULT, SLICE, UNASKED, Ahead, Fault, answer_line, is_silent, left, shown, told,
 )
-
-UNASKED = "unasked"
-
-# As many places of a row and elements of a pool as a run is to hold.
-LARGEST = 1000
-
-# As many branches of a tee as there may be.
-BRANCHES = 16
 
 
 class Raised(Exception):
@@ -81,10 +73,10 @@ def iterator(scenario, sources):
     return getattr(itertools, name)(*sources)
 
 
-def said(call):
-    """The line of a call that answers an item."""
+def said(call, shown_as=shown):
+    """The line of a call."""
     try:
-        return shown(call())
+        return shown_as(call())
     except StopIteration:
         return "end"
     except Raised as raised:
@@ -106,11 +98,10 @@ def adapter(scenario):
 
 
 def rows_over(making, pools):
-    first, second = making.words
     if making.name == "product":
-        return itertools.product(*pools, repeat=int(first))
+        return itertools.product(*pools, repeat=making.count)
     rule = getattr(itertools, {"replacement": "combinations_with_replacement"}.get(making.name, making.name))
-    return rule(*pools) if second == "-" else rule(*pools, int(second))
+    return rule(*pools) if making.count is None else rule(*pools, making.count)
 
 
 def enumerator(scenario):
@@ -137,6 +128,8 @@ def tee(scenario):
     (branches, store), (steps, calls) = scenario.given, scenario.lists
     if branches is not None and branches > BRANCHES:
         raise Skipped("too many branches")
+    if store > LARGEST:
+        raise Skipped("too large to run")
     source = Ahead(steps, raises=Raised)
     tees = [*itertools.tee(source, *[] if branches is None else [branches])]
     passed = [0] * len(tees)
@@ -165,28 +158,19 @@ def groups(scenario):
     called = itertools.groupby(source, *keys)
     groupers, lines = [], []
 
-    def next_group():
-        key, grouper = next(called)
+    def shown_group(group):
+        key, grouper = group
         groupers.append(grouper)
         return f"group {key} {len(groupers)}"
 
     for number in calls:
         if number is None:
-            lines.append(grouped(next_group))
+            lines.append(said(lambda: next(called), shown_group))
         elif 0 < number <= len(groupers):
             lines.append(said(lambda: next(groupers[number - 1])))
         else:
             lines.append(UNASKED)
     return lines + [left([source])]
-
-
-def grouped(call):
-    try:
-        return call()
-    except StopIteration:
-        return "end"
-    except Raised as raised:
-        return shown(raised.fault)
 
 
 def answers(scenario):

@@ -1,23 +1,22 @@
-"""The differences that are intended: each a rule that says, of a scenario, what the other program is to answer there.
+"""What the other programs are to answer to each scenario, where that is not what we answer: the intended differences.
 
-A rule names its entry in docs/DIFFERENCES.md and the smallest scenario that shows it. It does not say that answers may
-differ, but what they are: where a rule fits, the other's answers have to be those of the rule, and ours, as everywhere,
-those of the model. Any other difference is one too many.
+A rule does not say that answers may differ, but what they are. The first rule that fits a scenario foretells the other's
+answer, whole, and any other answer is a difference too many, ours among them; where no rule fits, the other has to answer
+what we do. What it is not asked is foretold too: a scenario that it has nothing for, and a call that only we refuse.
+Each rule names its entry in docs/DIFFERENCES.md and the smallest scenario that shows it.
 """
 
 from collections import namedtuple
 
 import model
 from model import END
-from protocol import ENDS, MAXSIZE, SHORT_BUFFER, OTHER_POOL, Ahead, Fault, left, shown
+from protocol import (
+    BRANCHES, ENDS, ENUMERATORS, LARGEST, LONGEST, MAXSIZE, OTHER_POOL, PATIENCE, SHORT_BUFFER, UNASKED, Ahead, Fault, left, shown,
+)
 
 # entry: the row of docs/DIFFERENCES.md. smallest: a scenario that shows it. answers: what the other answers to a
-# scenario, or None where the rule does not fit.
+# scenario, or None where the rule does not fit it.
 Difference = namedtuple("Difference", "entry smallest answers")
-
-# After so many calls of a source that has ended, the driver of the original holds that they have no end.
-PATIENCE = 1000
-
 
 def called(step, sources):
     """The lines of calls until the end was said often enough, where a call may draw after an end."""
@@ -66,7 +65,7 @@ LIMITS = [
 ]
 
 # A call that only we refuse is not put to the others: `answers` is how our line begins.
-UNASKED = [
+REFUSED = [
     Difference("a lent pool of another length", "combinations 3 2 ; n:4:4:4", f"refused {OTHER_POOL} "),
     Difference("a lent buffer that is too short", "combinations 3 2 ; n:3:1:4", f"refused {SHORT_BUFFER} "),
 ]
@@ -89,12 +88,6 @@ def first_number(bounds, least):
     return start + max(0, -(-(least - start) // stride)) * stride
 
 
-def step_of_nothing(arguments, source):
-    if len(arguments) != 3 or arguments[2] != 0:
-        return None
-    return sliced_to_the_next_number(arguments, source)
-
-
 def sliced_to_the_next_number(arguments, source):
     """What is drawn reaches to the first number that is not below stop."""
     bounds = bounds_with_any_step(arguments)
@@ -105,15 +98,20 @@ def sliced_to_the_next_number(arguments, source):
     return model.played(model.islice(start, stop, stride, drawn, source), [source])
 
 
+def step_of_nothing(arguments, source):
+    return sliced_to_the_next_number(arguments, source) if arguments[2:] == [0] else None
+
+
 def skipped_without_end(arguments, source):
-    """The number to skip to lies far behind the last item."""
+    """The number to skip to lies so far behind the last item that one call asks the ended source too often."""
     bounds = bounds_with_any_step(arguments)
     if bounds is None:
         return None
+    start, stop, _ = bounds
     items = sum(not isinstance(s, Fault) for s in source.listed)
-    stop = items if bounds[1] is None else min(items, bounds[1])
-    number = bounds[0] if arguments[2:] == [0] else first_number(bounds, stop)
-    if number - items <= PATIENCE:
+    number = start if arguments[2:] == [0] else first_number(bounds, items if stop is None else min(items, stop))
+    asked = number - items + (stop is None or number < stop)
+    if asked <= PATIENCE:
         return None
     lines = sliced_to_the_next_number(arguments, source)
     return [*lines[: lines.index("end")], f"endless: an ended source was asked {PATIENCE} times"]
@@ -136,28 +134,47 @@ def selector_first(rule, items, selectors, calls=called):
     return calls(step, [items, selectors])
 
 
-def selector_first_to_an_end(rule, items, selectors):
-    return selector_first(rule, items, selectors, called_to_an_end)
+def selector_first_where(fits):
+    """The same for the scenarios that fit."""
+
+    def told(scenario):
+        if scenario.name != "compress" or not fits(scenario):
+            return None
+        return selector_first(*scenario.given, *ahead(scenario))
+
+    return told
 
 
-def fault_of_the_selectors(rule, items, selectors):
-    met = any(isinstance(s, Fault) or s == rule.bad for s in selectors.listed)
-    return selector_first(rule, items, selectors) if met else None
+def meets_a_fault_after_our_end(scenario):
+    """Drawing selectors after the data have ended, it meets a fault that is not met by the rules."""
+    faults = [[line for line in lines if line.startswith("fault")] for lines in (selector_first(*scenario.given, *ahead(scenario)), model.answers(scenario))]
+    return len(faults[0]) > len(faults[1])
 
 
-def fault_of_the_data(rule, items, selectors):
-    return selector_first(rule, items, selectors) if any(isinstance(s, Fault) for s in items.listed) else None
+def has_a_fault_of_the_selectors(scenario):
+    (rule,), (_, selectors) = scenario.given, scenario.lists
+    return any(isinstance(s, Fault) or s == rule.bad for s in selectors)
+
+
+def has_a_fault_of_the_data(scenario):
+    return any(isinstance(s, Fault) for s in scenario.lists[0])
+
+
+def draws_after_the_end(scenario):
+    to_an_end = selector_first(*scenario.given, *ahead(scenario), called_to_an_end)
+    return selector_first(*scenario.given, *ahead(scenario)) != to_an_end
 
 
 ORIGINAL = [
     *LIMITS,
+    Difference("islice asks an ended source while it skips", "islice 1000,_ ; -", of("islice", skipped_without_end)),
     Difference("islice with a step of 0", "islice 0,1,0 ; 1", of("islice", step_of_nothing)),
     Difference("islice draws past its stop", "islice 0,1,2 ; 0 1", of("islice", sliced_to_the_next_number)),
-    Difference("islice asks an ended source while it skips", "islice 1001,_ ; -", of("islice", skipped_without_end)),
-    Difference("compress, a fault of the selectors", "compress nonzero ; 7 ; !1:0:0", of("compress", fault_of_the_selectors)),
-    Difference("compress, a fault of the data", "compress nonzero ; !1:0:0 ; 0", of("compress", fault_of_the_data)),
-    Difference("compress draws the selector first", "compress nonzero ; 7 ; -", of("compress", selector_first_to_an_end)),
-    Difference("compress draws after its end", "compress nonzero ; - ; 1 1", of("compress", selector_first)),
+    Difference("compress, a fault after its end", "compress nonzero ; - ; !1:0:0", selector_first_where(meets_a_fault_after_our_end)),
+    Difference("compress, a fault of the selectors", "compress nonzero ; 7 ; !1:0:0", selector_first_where(has_a_fault_of_the_selectors)),
+    Difference("compress, a fault of the data", "compress nonzero ; !1:0:0 ; 0", selector_first_where(has_a_fault_of_the_data)),
+    Difference("compress draws after its end", "compress nonzero ; - ; 1 1", selector_first_where(draws_after_the_end)),
+    Difference("compress draws the selector first", "compress nonzero ; 7 ; -", of("compress", selector_first)),
 ]
 
 
@@ -177,9 +194,7 @@ def ended_by_a_fault(name):
             return None
         sources = ahead(scenario)
         given = model.generator(name, scenario.given, sources)
-        if given is None or not any(isinstance(s, Fault) for listed in scenario.lists for s in listed):
-            return None
-        return model.played(up_to_a_fault(given), sources)
+        return None if given is None else model.played(up_to_a_fault(given), sources)
 
     return told
 
@@ -211,8 +226,8 @@ def datum_for_every_call(rule, items, selectors):
 
 
 def number_wrapped(arguments, source):
-    """Where the next number passes 2^63 - 1 and there is no stop, the number wraps to one below 0, so that the item after
-    the first is given at once, and then none within reach."""
+    """Where the next number passes 2^63 - 1 and there is no stop, it is set to one below 0, so that the item after the
+    first is given at once, and then none within reach."""
     bounds = model.slice_bounds(arguments)
     if bounds is None or bounds[1] is not None or bounds[0] + bounds[2] <= MAXSIZE:
         return None
@@ -229,49 +244,60 @@ def unbounded(joining, initial, source):
 CPYTHON = [
     *LIMITS,
     Difference("CPython's chain goes on after an exception", "chain ; !1:0:0 ; 1", of("chain", uncut)),
+    Difference("CPython's islice wraps its next number", f"islice 1,_,{MAXSIZE} ; 0 1 2", of("islice", number_wrapped)),
     Difference("CPython's islice ends at an exception", "islice _ ; !1:0:0 1", ended_by_a_fault("islice")),
-    Difference("CPython's pairwise ends at an exception", "pairwise ; !1:0:0 1 2", ended_by_a_fault("pairwise")),
+    Difference("CPython's pairwise ends at an exception", "pairwise ; !1:0:0 1", ended_by_a_fault("pairwise")),
     Difference("CPython's zip_longest ends at an exception", "zip_longest 8 8 ; !1:0:0 1 ; -", ended_by_a_fault("zip_longest")),
     Difference("CPython's compress draws after its end", "compress nonzero ; 7 8 ; -", of("compress", datum_for_every_call)),
-    Difference("CPython's islice wraps its next number", f"islice 1,_,{MAXSIZE} ; 0 1 2", of("islice", number_wrapped)),
     Difference("sums have 64 bits", f"accumulate sum - ; {2**64 - 1} 1", of("accumulate", unbounded)),
 ]
 
 
+# ---------------------------------------------------------------------------------------------------
+# What the others have nothing for
+
+
+def reason_to_skip(scenario, original):
+    """Why a scenario is not put to the original, or to CPython; None where it is."""
+    if scenario.name == "records":
+        return "itertools has no records"
+    if scenario.name == "range" and original:
+        return "itertools has no ranges"
+    if scenario.name == "zip_longest" and scenario.given[0] != scenario.given[1]:
+        return "itertools has one fill"
+    if scenario.name in ENUMERATORS:
+        (making,) = scenario.given
+        too_often = original and making.name == "product" and making.count > LONGEST
+        if too_often or making.width > LARGEST or any(length > LARGEST for length in making.lengths):
+            return "too large to run"
+    if scenario.name == "tee":
+        branches, store = scenario.given
+        if branches is not None and branches > BRANCHES:
+            return "too many branches"
+        return "too large to run" if store > LARGEST else None
+    return None
+
+
 def smallest():
     """The smallest scenarios of all rules, each once."""
-    return [*dict.fromkeys(rule.smallest for rule in ORIGINAL + CPYTHON + UNASKED)]
+    return [*dict.fromkeys(rule.smallest for rule in ORIGINAL + CPYTHON + REFUSED)]
 
 
 # ---------------------------------------------------------------------------------------------------
-# Judging
+# Foretelling
 
 
-def matched(lines, theirs):
-    """The entries for the calls that were not put to the other, if all other lines are equal; else None."""
-    if len(lines) != len(theirs):
-        return None
-    entries = set()
-    for ours, other in zip(lines, theirs):
-        if other == "unasked":
-            fitting = {unasked.entry for unasked in UNASKED if ours.startswith(unasked.answers)}
-            if not fitting:
-                return None
-            entries |= fitting
-        elif ours != other:
-            return None
-    return entries
-
-
-def judged(rules, scenario, ours, theirs):
-    """The entries that account for the difference between two answers, none where there is no difference; None where
-    nothing accounts for it."""
-    entries = matched(ours, theirs)
-    if entries is not None or scenario is None:
-        return entries
+def foretold(rules, scenario, ours):
+    """What the other answers to a scenario that is put to it, and the entries by which that is not what we answer."""
+    lines, entries = ours, set()
     for rule in rules:
-        lines = rule.answers(scenario)
-        entries = None if lines is None else matched(lines, theirs)
-        if entries is not None:
-            return entries | {rule.entry}
-    return None
+        answers = rule.answers(scenario)
+        if answers is not None:
+            lines, entries = answers, {rule.entry} if answers != ours else set()
+            break
+    asked = []
+    for line in lines:
+        refused = {rule.entry for rule in REFUSED if line.startswith(rule.answers)}
+        entries |= refused
+        asked.append(UNASKED if refused else line)
+    return asked, entries

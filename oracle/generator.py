@@ -92,12 +92,22 @@ def slices_at_the_edges():
                 yield f"islice {','.join(map(str, arguments))} ; {ahead}"
     for arguments in ((1, 2, 3, 4), ("_",) * 4, (0, 1, 2, 3, 4), (TOP,) * 4):
         yield f"islice {','.join(map(str, arguments))} ; 0 1 2"
-    for skipped in (0, 1, 800, 1500, 5000):
+    # a call that asks an ended source a thousand times, and some more and fewer
+    for skipped in (0, 1, 800, *range(996, 1006), 1500, 5000):
         for ahead in ("-", "0", "0 1 2", F, f"0 {F} 1"):
             yield f"islice {skipped},_ ; {ahead}"
             yield f"islice {skipped},2 ; {ahead}"
             yield f"islice 0,_,{skipped} ; {ahead}"
             yield f"islice 1,2,{skipped} ; {ahead}"
+
+
+def long_numbers():
+    zeros = "0" * 5000
+    for word in (zeros, zeros + "7", zeros + str(TOP), zeros + str(TOP + 1), "1" + zeros):
+        yield f"pairwise ; 1 {word} 2"
+        yield f"takewhile below:{word} ; 1 2"
+        yield f"product {word} 2 ; n"
+        yield f"combinations {word} 1 ; n n:{word}:3:3"
 
 
 def compressions():
@@ -347,6 +357,20 @@ def random_records(seed):
         yield f"records {data.hex() or '-'}"
 
 
+def large_tees_and_groups(seed):
+    chance = Chance(seed)
+    r = chance.random
+    for _ in range(4000):
+        branches, store = r.choice(("-", 0, 1, 2, 5, 15, 16)), r.choice((0, 1, 5, 40, 100))
+        steps = [f"s{r.randrange(r.choice((1, 3, 17)))}{r.choice(('', '', '', ':0', f':{store}'))}" for _ in range(chance.length(60) + 1)]
+        calls = [f"c{r.randrange(17)}" if r.random() < 0.1 else step for step in steps]
+        yield f"tee {branches} {store} ; {chance.steps(60)} ; {listed(calls)}"
+        key = r.choice(("self", f"mod:{r.choice((1, 2, 7, 1000, TOP))}{chance.bad()}"))
+        item = r.choice((chance.number, lambda: r.choice((3, 11, 19, 2**63 + 3)), lambda: r.randrange(2)))
+        calls = [r.choice(("g", f"i{r.randrange(1, 5)}", f"i{r.randrange(12)}")) for _ in range(chance.length(60) + 1)]
+        yield f"groupby {key} ; {chance.steps(60, item)} ; {listed(calls)}"
+
+
 # ---------------------------------------------------------------------------------------------------
 # Damaged copies
 
@@ -406,6 +430,7 @@ SMALL = (
     ("chain", chains),
     ("islice", slices),
     ("islice at the edges", slices_at_the_edges),
+    ("numbers with many digits", long_numbers),
     ("compress", compressions),
     ("accumulate", accumulations),
     ("pairwise", pairs),
@@ -422,7 +447,7 @@ RANDOM = (
 )
 
 # Families of calls that replay does not play yet. The two others play them already, and are compared with each other.
-LATER = (("tee", tees), ("groupby", groups))
+LATER = (("tee", tees), ("groupby", groups), ("large tees and groups", lambda: large_tees_and_groups(5)))
 
 
 def families():

@@ -5,12 +5,16 @@ an enumerator are those that grow place by place, the lowest place first.
 """
 
 import struct
+import sys
 
 from protocol import (
     ENDS, ENUMERATORS, JOINING_FAULT, MAXSIZE, PREDICATE_FAULT, SLICE, Ahead, Block, Fault, answer_line, left, shown, told,
 )
 
 END = object()
+
+# a row grows by a call for each place
+sys.setrecursionlimit(10_000)
 
 
 def asked(rule, says):

@@ -11,6 +11,16 @@ POOL_TOO_LONG, TOO_MANY_PLACES, OTHER_POOL, SHORT_BUFFER, SLICE = 1, 2, 3, 4, 5
 # How often an adapter or a source is to say end.
 ENDS = 3
 
+# What a run of the others holds: places of a row, elements of a pool and places of a store; how often no pools are repeated;
+# the branches of a tee. After so many calls of an ended source in one call, the driver of the original gives up.
+LARGEST = 1000
+LONGEST = 1_000_000
+BRANCHES = 16
+PATIENCE = 1000
+
+# In the place of an answer to a call that only we refuse.
+UNASKED = "unasked"
+
 ENUMERATORS = ("product", "combinations", "replacement", "permutations")
 
 # How many words stand behind the name, and how many parts behind the first.
@@ -56,12 +66,13 @@ class Rule:
 
 @dataclass
 class Making:
-    """What the making of an enumerator takes: the pools' lengths, and how many places a row has."""
+    """What the making of an enumerator takes: the pools' lengths, how many places a row has, and what says so: how often
+    the pools of a product are repeated, or else the r, None where it is absent."""
 
     name: str
-    words: list
     lengths: list
     width: int
+    count: int | None
 
     @property
     def size(self):
@@ -96,8 +107,9 @@ def need(condition):
 
 def number(word, bits=64):
     need(re.fullmatch("[0-9]+", word))
-    need(len(word) < 4000 and int(word) < 2**bits)
-    return int(word)
+    digits = word.lstrip("0") or "0"
+    need(len(digits) <= 20 and int(digits) < 2**bits)
+    return int(digits)
 
 
 def optional(word, absent="-"):
@@ -160,10 +172,10 @@ def making(name, words):
     if name == "product":
         repeat = number(words[0], 32)
         lengths = [] if words[1] == "-" else [number(length) for length in words[1].split(",")]
-        return Making(name, words, lengths, len(lengths) * repeat)
+        return Making(name, lengths, len(lengths) * repeat, repeat)
     n = number(words[0])
     r = optional(words[1]) if name == "permutations" else number(words[1])
-    return Making(name, words, [n], n if r is None else r)
+    return Making(name, [n], n if r is None else r, r)
 
 
 def record_bytes(digits):

@@ -7,7 +7,7 @@ its module that any of them goes over, several times, shorter ones first.
 
 import re
 import subprocess
-from collections import defaultdict
+from collections import Counter, defaultdict
 from pathlib import Path
 
 import model
@@ -18,6 +18,8 @@ SAMPLE = ORACLE / "sample.txt"
 
 # Each edge is to lie on the way of so many scenarios, where there are so many.
 TIMES = 12
+
+LEAST = 200
 
 LONGEST_LINE = 90
 LONGEST_ANSWER = 1500
@@ -59,8 +61,10 @@ def play(program, lines):
 def stale(original):
     """What is wrong with the sample: answers that the original does not give."""
     kept = [*blocks()]
+    if len(kept) < LEAST:
+        yield f"the sample has only {len(kept)} scenarios"
     answers, _ = play(original, [line for line, _ in kept])
-    for (line, owed), told in zip(kept, answers):
+    for (line, owed), told in zip(kept, answers, strict=True):
         if owed != told:
             yield f"the sample is not as the original answers: {line.decode()}"
 
@@ -106,7 +110,8 @@ def chosen(lines, gone):
 
 
 def write(lines, later, original, counting):
-    """Chooses the sample among lines and writes it, and tells what no scenario reaches, also of those to be played later."""
+    """Chooses the sample among lines and writes it, and tells which edges no scenario reaches, also of those to be played
+    later. An edge without a line is the compiler's own, and many are checks of an index."""
     gone, bodies = ways(counting, lines + later)
     told, _ = play(original, lines)
     same = [at for at, line in enumerate(lines) if len(line) <= LONGEST_LINE and told[at] == model.by_the_rules(line) and len("".join(told[at])) <= LONGEST_ANSWER]
@@ -120,12 +125,6 @@ def write(lines, later, original, counting):
     reached = frozenset().union(*gone)
     in_sample = frozenset().union(*(way for line, way in zip(lines, gone) if line in {*picked}))
     print(f"{len(picked)} scenarios, over {len(in_sample)} of {len(bodies)} edges in the original's bodies; {len(reached)} are reached by any scenario")
-    for name, body, line in lines_without(bodies, reached):
-        print(f"no edge reached: {name} {body} line {line}")
-
-
-def lines_without(bodies, reached):
-    """The lines of bodies with edges of which none is reached, checks of an index among them. An edge without a line is
-    the compiler's own; a line whose edges others imply has none that is counted."""
-    all_lines, with_one = ({bodies[edge] for edge in edges if bodies[edge][2] != "?"} for edges in (bodies, reached))
-    return sorted(all_lines - with_one)
+    missed = Counter(bodies[edge] for edge in bodies.keys() - reached)
+    for (name, body, line), count in sorted(missed.items()):
+        print(f"not reached: {name} {body} line {line}, {count} of its edges")

@@ -659,9 +659,11 @@ def scenarios(group):
 def owed(line, good):
     lines = model.by_the_rules(line)
     assert (lines != ["bad scenario"]) == good, line
-    told = answer_line(line, cpython.answers)
-    if good and not told[0].startswith("skipped: "):
-        assert differences.judged(differences.CPYTHON, read(line), lines, told) is not None, (line, lines, told)
+    if good:
+        told = answer_line(line, cpython.answers)
+        reason = differences.reason_to_skip(read(line), original=False)
+        foretold = [f"skipped: {reason}"] if reason else differences.foretold(differences.CPYTHON, read(line), lines)[0]
+        assert told == foretold, (line, foretold, told)
     hand = BY_HAND.get(line.decode("ascii", "replace"))
     assert hand is None or hand.split(", ") == lines, (line, lines, hand)
     return lines

@@ -77,11 +77,8 @@ impl PyObject {
         if let Some(truth) = self.slots().truth {
             return truth(self, vm);
         }
-        if let Some(PyBool(value)) = self.payload() {
-            return Ok(*value);
-        }
-        match self.payload::<PyInt>() {
-            Some(number) => Ok(*number.as_bigint() != 0.into()),
+        match self.payload() {
+            Some(PyBool(value)) => Ok(*value),
             None => Err(vm.new_type_error("object has no truth here".to_owned())),
         }
     }

@@ -1,7 +1,7 @@
 //! Adapters: the making, and calls until the end was said three times.
 
 use super::host::{Callable, Source};
-use super::scenario::{Adapter, Joining};
+use super::scenario::{Adapter, Joining, Rule, Steps};
 use super::{stopped, Player, Stopped};
 use crate::convert::ToPyObject;
 use crate::function::FuncArgs;
@@ -15,13 +15,14 @@ struct Making {
 }
 
 impl Making {
-    fn of(class: &'static str, args: Vec<PyObjectRef>, sources: Vec<PyObjectRef>) -> Making {
+    fn of(class: &'static str, sources: Vec<PyObjectRef>) -> Making {
+        let args = FuncArgs {
+            args: sources.clone(),
+            ..FuncArgs::default()
+        };
         Making {
             class,
-            args: FuncArgs {
-                args,
-                ..FuncArgs::default()
-            },
+            args,
             sources,
         }
     }
@@ -65,68 +66,58 @@ impl Player {
     fn making(&self, adapter: &Adapter) -> Option<Making> {
         let vm = &self.vm;
         let source = |steps| Source::of_numbers(steps, vm);
-        let two = |class, first: PyObjectRef, second: PyObjectRef| {
-            Making::of(
-                class,
-                vec![first.clone(), second.clone()],
-                vec![first, second],
-            )
-        };
-        let called = |class, callable: Callable, source: PyObjectRef| {
-            Making::of(
-                class,
-                vec![callable.into_pyobject(vm), source.clone()],
-                vec![source],
-            )
-        };
         Some(match adapter {
-            Adapter::Takewhile(rule, steps) => {
-                called("takewhile", Callable::Below(*rule), source(steps))
+            Adapter::Takewhile(rule, steps) => self.called("takewhile", *rule, steps),
+            Adapter::Dropwhile(rule, steps) => self.called("dropwhile", *rule, steps),
+            Adapter::Chain(first, second) => {
+                Making::of("chain", vec![source(first), source(second)])
             }
-            Adapter::Dropwhile(rule, steps) => {
-                called("dropwhile", Callable::Below(*rule), source(steps))
-            }
-            Adapter::Chain(first, second) => two("chain", source(first), source(second)),
             Adapter::Islice(entries, steps) => {
-                let source = source(steps);
                 let entry = |entry: &Option<u64>| {
                     entry.map_or(vm.ctx.none.clone(), |number| number.to_pyobject(vm))
                 };
-                let args = [source.clone()]
-                    .into_iter()
-                    .chain(entries.iter().map(entry))
-                    .collect();
-                Making::of("islice", args, vec![source])
+                let mut making = Making::of("islice", vec![source(steps)]);
+                making.args.args.extend(entries.iter().map(entry));
+                making
             }
-            Adapter::Compress(rule, data, selectors) => two(
+            Adapter::Compress(rule, data, selectors) => Making::of(
                 "compress",
-                source(data),
-                Source::of_selectors(selectors, *rule, vm),
+                vec![source(data), Source::of_selectors(selectors, *rule, vm)],
             ),
             Adapter::Accumulate(joining, initial, steps) => {
-                let source = source(steps);
-                let mut making = Making::of("accumulate", vec![source.clone()], vec![source]);
-                // without a function, the original adds
-                if let Joining::Max = joining {
-                    making
-                        .args
-                        .args
-                        .push(Callable::Joined(*joining).into_pyobject(vm));
-                }
-                match initial {
-                    Some(initial) => making.with("initial", initial.to_pyobject(vm)),
-                    None => making,
-                }
+                self.accumulate(*joining, *initial, steps)
             }
-            Adapter::Pairwise(steps) => {
-                let source = source(steps);
-                Making::of("pairwise", vec![source.clone()], vec![source])
-            }
+            Adapter::Pairwise(steps) => Making::of("pairwise", vec![source(steps)]),
             Adapter::ZipLongest([fill, other], _, _) if fill != other => return None,
             Adapter::ZipLongest([fill, _], left, right) => {
-                two("zip_longest", source(left), source(right))
+                Making::of("zip_longest", vec![source(left), source(right)])
                     .with("fillvalue", fill.to_pyobject(vm))
             }
         })
+    }
+
+    /// A making that is given a predicate and a source.
+    fn called(&self, class: &'static str, rule: Rule, steps: &Steps) -> Making {
+        let mut making = Making::of(class, vec![Source::of_numbers(steps, &self.vm)]);
+        making
+            .args
+            .args
+            .insert(0, Callable::Below(rule).into_pyobject(&self.vm));
+        making
+    }
+
+    /// Without a function the original adds; a sum from an initial value is called all the same, so that both ways are gone.
+    fn accumulate(&self, joining: Joining, initial: Option<u64>, steps: &Steps) -> Making {
+        let mut making = Making::of("accumulate", vec![Source::of_numbers(steps, &self.vm)]);
+        if matches!(joining, Joining::Max) || initial.is_some() {
+            making
+                .args
+                .args
+                .push(Callable::Joined(joining).into_pyobject(&self.vm));
+        }
+        match initial {
+            Some(initial) => making.with("initial", initial.to_pyobject(&self.vm)),
+            None => making,
+        }
     }
 }

@@ -2,15 +2,13 @@
 //! positions, whose rows are the places, and over the elements. Both are stepped together.
 
 use super::scenario::{Enumeration, Lent};
-use super::{buffer, number, stopped, Player, Stopped, UNASKED};
+use super::{buffer, number, stopped, Answer, Player, Stopped, LARGEST, UNASKED};
 use crate::builtins::{PyList, PyTuple};
 use crate::convert::ToPyObject;
 use crate::function::FuncArgs;
 use crate::object::PyObjectRef;
-use crate::protocol::{PyIter, PyIterReturn};
 
-/// What a run can hold: places of a row and elements of a pool, and how often no pools are repeated.
-const LARGEST: u64 = 1000;
+/// How often no pools are repeated in a run.
 const LONGEST: u64 = 1_000_000;
 
 impl Enumeration {
@@ -99,7 +97,8 @@ impl Player {
                 "product"
             }
             Enumeration::Chosen { class, r, .. } => {
-                args.args.extend(r.map(|r| r.to_pyobject(vm)));
+                args.args
+                    .push(r.map_or(vm.ctx.none.clone(), |r| r.to_pyobject(vm)));
                 class
             }
         };
@@ -108,13 +107,13 @@ impl Player {
 
     /// The numbers of the next row, none at the end.
     fn row(&self, enumerator: &PyObjectRef) -> Result<Option<Vec<u64>>, Stopped> {
-        match PyIter::new(enumerator.clone()).next(&self.vm) {
-            Ok(PyIterReturn::Return(row)) => {
+        match self.next(enumerator)? {
+            Answer::Item(row) => {
                 let PyTuple(items) = row.payload().expect("a row is a tuple");
                 Ok(Some(items.iter().map(number).collect()))
             }
-            Ok(PyIterReturn::StopIteration(_)) => Ok(None),
-            Err(raised) => Err(stopped(&raised)),
+            Answer::End => Ok(None),
+            Answer::Fault(fault) => Err(Stopped(fault.to_string())),
         }
     }
 }

@@ -10,8 +10,16 @@ use crate::vm::Context;
 use crate::{types, PyResult, VirtualMachine};
 use std::cell::Cell;
 
-/// How often a source that has ended is asked in one scenario before it is held that the asking has no end.
+/// How often sources that have ended are asked in one call before it is held that the asking has no end.
 const PATIENCE: usize = 1000;
+
+thread_local! {
+    static ASKED_AFTER_AN_END: Cell<usize> = const { Cell::new(0) };
+}
+
+pub fn begin_a_call() {
+    ASKED_AFTER_AN_END.set(0);
+}
 
 macro_rules! host_class {
     ($class:ident, $slots:ident => $fill:block) => {
@@ -35,7 +43,6 @@ macro_rules! host_class {
 pub struct Source {
     steps: Vec<Result<PyObjectRef, Fault>>,
     drawn: Cell<usize>,
-    asked_after_the_end: Cell<usize>,
 }
 
 host_class!(Source, slots => {
@@ -62,7 +69,6 @@ impl Source {
         Source {
             steps: steps.iter().map(|step| step.map(&object)).collect(),
             drawn: Cell::new(0),
-            asked_after_the_end: Cell::new(0),
         }
         .into_pyobject(vm)
     }
@@ -75,12 +81,11 @@ impl Source {
                     .map(PyIterReturn::Return)
                     .map_err(|fault| vm.new_fault(fault))
             }
-            None if self.asked_after_the_end.get() == PATIENCE => {
+            None if ASKED_AFTER_AN_END.get() == PATIENCE => {
                 Err(vm.new_endless(format!("an ended source was asked {PATIENCE} times")))
             }
             None => {
-                self.asked_after_the_end
-                    .set(self.asked_after_the_end.get() + 1);
+                ASKED_AFTER_AN_END.set(ASKED_AFTER_AN_END.get() + 1);
                 Ok(PyIterReturn::StopIteration(None))
             }
         }
@@ -102,7 +107,7 @@ impl Source {
 
 /// A selector: its truth is what the scenario's rule says of it.
 pub struct Selector {
-    pub value: u64,
+    value: u64,
     bad: Option<u64>,
 }
 

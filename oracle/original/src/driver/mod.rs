@@ -37,6 +37,9 @@ pub const JOINING_FAULT: Fault = Fault {
 /// In the place of an answer: the original cannot be asked, since it has no lent pools, buffers, stores or numbers.
 const UNASKED: &str = "unasked\n";
 
+/// What a run holds: places of a row, elements of a pool and places of a store.
+const LARGEST: u64 = 1000;
+
 pub struct Player {
     vm: VirtualMachine,
     classes: Vec<&'static Py<PyType>>,
@@ -90,20 +93,45 @@ impl Player {
         new((*class).to_owned(), args, &self.vm)
     }
 
-    /// Calls `next` on an object, and writes its answer. Tells whether that was the end.
-    fn step(&self, object: &PyObjectRef, out: &mut String) -> Result<bool, Stopped> {
+    /// Calls `next` on an object.
+    fn next(&self, object: &PyObjectRef) -> Result<Answer, Stopped> {
+        host::begin_a_call();
         match PyIter::new(object.clone()).next(&self.vm) {
-            Ok(PyIterReturn::Return(item)) => out.push_str(&format!("item{}\n", numbers(&item))),
-            Ok(PyIterReturn::StopIteration(_)) => {
-                out.push_str("end\n");
-                return Ok(true);
-            }
-            Err(raised) => match raised.fault {
-                Some(fault) => out.push_str(&format!("{fault}\n")),
-                None => return Err(stopped(&raised)),
-            },
+            Ok(PyIterReturn::Return(item)) => Ok(Answer::Item(item)),
+            Ok(PyIterReturn::StopIteration(_)) => Ok(Answer::End),
+            Err(raised) => raised
+                .fault
+                .map(Answer::Fault)
+                .ok_or_else(|| stopped(&raised)),
         }
-        Ok(false)
+    }
+
+    /// Calls `next` on an object whose items are numbers or pairs, and writes its answer. Tells whether that was the end.
+    fn step(&self, object: &PyObjectRef, out: &mut String) -> Result<bool, Stopped> {
+        let answer = self.next(object)?;
+        match &answer {
+            Answer::Item(item) => out.push_str(&format!("item{}\n", numbers(item))),
+            other => other.write(out),
+        }
+        Ok(matches!(answer, Answer::End))
+    }
+}
+
+/// What a call of `next` answered.
+enum Answer {
+    Item(PyObjectRef),
+    End,
+    Fault(Fault),
+}
+
+impl Answer {
+    /// Writes an end or a fault. How an item is written is not the same for all.
+    fn write(&self, out: &mut String) {
+        match self {
+            Answer::Item(_) => {}
+            Answer::End => out.push_str("end\n"),
+            Answer::Fault(fault) => out.push_str(&format!("{fault}\n")),
+        }
     }
 }
 
@@ -120,9 +148,6 @@ fn numbers(object: &PyObjectRef) -> String {
 }
 
 fn number(object: &PyObjectRef) -> u64 {
-    if let Some(selector) = object.payload::<host::Selector>() {
-        return selector.value;
-    }
     let number = object.payload::<PyInt>().expect("items are numbers");
     u64::try_from(number.as_bigint().value()).expect("numbers have 64 bits")
 }

@@ -115,45 +115,47 @@ pub fn read(line: &[u8]) -> Read<Scenario> {
         (["product" | "combinations" | "replacement" | "permutations", ..], [calls]) => Ok(
             Scenario::Enumerator(enumeration(&words)?, list(calls, ' ', lent)?),
         ),
-        (["tee", branches, store], [ahead, calls]) => {
-            let branches = optional(branches, "-")?;
-            let tee = Tee {
-                branches,
-                store: number(store)?,
+        (["tee", branches, store], [ahead, calls]) => Ok(Scenario::Tee(
+            tee(branches, store, ahead)?,
+            list(calls, ' ', branch)?,
+        )),
+        (["groupby", word], [ahead, calls]) => {
+            let groups = Groups {
+                modulus: key(word)?,
                 steps: steps(ahead)?,
             };
-            Ok(Scenario::Tee(tee, list(calls, ' ', branch)?))
-        }
-        (["groupby", key], [ahead, calls]) => {
-            let modulus = if *key == "self" {
-                None
-            } else {
-                Some(modulus(key)?)
-            };
-            Ok(Scenario::Groups(
-                Groups {
-                    modulus,
-                    steps: steps(ahead)?,
-                },
-                list(calls, ' ', group)?,
-            ))
+            Ok(Scenario::Groups(groups, list(calls, ' ', group)?))
         }
         (head, parts) => adapter(head, parts).map(Scenario::Adapter),
     }
 }
 
+fn tee(branches: &str, store: &str, ahead: &str) -> Read<Tee> {
+    Ok(Tee {
+        branches: optional(branches, "-")?,
+        store: number(store)?,
+        steps: steps(ahead)?,
+    })
+}
+
 fn adapter(head: &[&str], parts: &[&str]) -> Read<Adapter> {
     match (head, parts) {
-        (["takewhile", rule], [ahead]) => Ok(Adapter::Takewhile(below(rule)?, steps(ahead)?)),
-        (["dropwhile", rule], [ahead]) => Ok(Adapter::Dropwhile(below(rule)?, steps(ahead)?)),
+        (["takewhile", word], [ahead]) => Ok(Adapter::Takewhile(
+            rule(word, "below", true)?,
+            steps(ahead)?,
+        )),
+        (["dropwhile", word], [ahead]) => Ok(Adapter::Dropwhile(
+            rule(word, "below", true)?,
+            steps(ahead)?,
+        )),
         (["chain"], [first, second]) => Ok(Adapter::Chain(steps(first)?, steps(second)?)),
         (["islice", "-"], [ahead]) => Ok(Adapter::Islice(vec![], steps(ahead)?)),
         (["islice", entries], [ahead]) => Ok(Adapter::Islice(
             list(entries, ',', |word| optional(word, "_"))?,
             steps(ahead)?,
         )),
-        (["compress", rule], [data, selectors]) => Ok(Adapter::Compress(
-            nonzero(rule)?,
+        (["compress", word], [data, selectors]) => Ok(Adapter::Compress(
+            rule(word, "nonzero", false)?,
             steps(data)?,
             steps(selectors)?,
         )),
@@ -247,50 +249,39 @@ fn steps(part: &str) -> Read<Steps> {
     })
 }
 
-fn below(word: &str) -> Read<Rule> {
-    match word.split(':').collect::<Vec<_>>()[..] {
-        ["below", limit] => Ok(Rule {
-            number: number(limit)?,
-            bad: None,
-        }),
-        ["below", limit, bad] => Ok(Rule {
-            number: number(limit)?,
-            bad: Some(number(bad)?),
-        }),
-        _ => Err(Bad),
-    }
-}
-
-fn nonzero(word: &str) -> Read<Rule> {
-    match word.split(':').collect::<Vec<_>>()[..] {
-        ["nonzero"] => Ok(Rule {
-            number: 0,
-            bad: None,
-        }),
-        ["nonzero", bad] => Ok(Rule {
-            number: 0,
-            bad: Some(number(bad)?),
-        }),
-        _ => Err(Bad),
-    }
-}
-
-fn modulus(word: &str) -> Read<Rule> {
-    let rule = match word.split(':').collect::<Vec<_>>()[..] {
-        ["mod", by] => Rule {
-            number: number(by)?,
-            bad: None,
-        },
-        ["mod", by, bad] => Rule {
-            number: number(by)?,
-            bad: Some(number(bad)?),
-        },
-        _ => return Err(Bad),
+/// A rule of this name, with a number of its own if it is `numbered`, and perhaps with an item that it has no answer for.
+fn rule(word: &str, name: &str, numbered: bool) -> Read<Rule> {
+    let (first, numbers) = match word.split_once(':') {
+        Some((first, rest)) => (first, list(rest, ':', number)?),
+        None => (word, vec![]),
     };
-    if rule.number == 0 {
-        return Err(Bad);
+    match numbers[..] {
+        _ if first != name => Err(Bad),
+        [number] if numbered => Ok(Rule { number, bad: None }),
+        [number, bad] if numbered => Ok(Rule {
+            number,
+            bad: Some(bad),
+        }),
+        [] if !numbered => Ok(Rule {
+            number: 0,
+            bad: None,
+        }),
+        [bad] if !numbered => Ok(Rule {
+            number: 0,
+            bad: Some(bad),
+        }),
+        _ => Err(Bad),
     }
-    Ok(rule)
+}
+
+fn key(word: &str) -> Read<Option<Rule>> {
+    if word == "self" {
+        return Ok(None);
+    }
+    match rule(word, "mod", true)? {
+        Rule { number: 0, .. } => Err(Bad),
+        modulus => Ok(Some(modulus)),
+    }
 }
 
 fn lent(word: &str) -> Read<Option<Lent>> {

@@ -31,26 +31,36 @@ impl Player {
         let mut groupers: Vec<PyObjectRef> = vec![];
         for call in calls {
             match call {
-                Group::Next => match self.next(&made)? {
-                    Answer::Item(pair) => {
-                        let PyTuple(pair) = pair.payload().expect("a group is a pair");
-                        groupers.push(pair[1].clone());
-                        out.push_str(&format!("group {} {}\n", number(&pair[0]), groupers.len()));
+                Group::Next => self.next_group(&made, &mut groupers, out)?,
+                Group::Item(number) => {
+                    let grouper = number
+                        .checked_sub(1)
+                        .and_then(|at| groupers.get(at as usize));
+                    match grouper {
+                        Some(grouper) => drop(self.step(grouper, out)?),
+                        None => out.push_str(UNASKED),
                     }
-                    other => other.write(out),
-                },
-                Group::Item(number) => match number
-                    .checked_sub(1)
-                    .and_then(|at| groupers.get(at as usize))
-                {
-                    Some(grouper) => {
-                        self.step(grouper, out)?;
-                    }
-                    None => out.push_str(UNASKED),
-                },
+                }
             }
         }
         out.push_str(&format!("left {}\n", payload_of::<Source>(&source).left()));
+        Ok(())
+    }
+
+    fn next_group(
+        &self,
+        groupby: &PyObjectRef,
+        groupers: &mut Vec<PyObjectRef>,
+        out: &mut String,
+    ) -> Result<(), Stopped> {
+        match self.next(groupby)? {
+            Answer::Item(pair) => {
+                let PyTuple(pair) = pair.payload().expect("a group is a pair");
+                groupers.push(pair[1].clone());
+                out.push_str(&format!("group {} {}\n", number(&pair[0]), groupers.len()));
+            }
+            other => other.write(out),
+        }
         Ok(())
     }
 }

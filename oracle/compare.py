@@ -98,6 +98,8 @@ def run_all(programs, lines):
     told = {}
     for name, (process, answer) in running.items():
         if process.wait() != 0:
+            for other, _ in running.values():
+                other.kill()
             sys.exit(f"compare.py: {name} ended with status {process.returncode}")
         told[name] = answers_of(answer.read_bytes(), len(lines))
     return owed, told

@@ -18,7 +18,8 @@ from protocol import (
 # scenario, or None where the rule does not fit it.
 Difference = namedtuple("Difference", "entry smallest answers")
 
-def called(step, sources):
+
+def played_by_calls(step, sources):
     """The lines of calls until the end was said often enough, where a call may draw after an end."""
     lines = []
     while lines.count("end") < ENDS:
@@ -27,7 +28,7 @@ def called(step, sources):
     return lines + [left(sources)]
 
 
-def called_to_an_end(step, sources):
+def played_to_an_end(step, sources):
     """The same where nothing is drawn after the first end."""
     return model.played(iter(step, END), sources)
 
@@ -36,7 +37,7 @@ def ahead(scenario):
     return [Ahead(listed) for listed in scenario.lists]
 
 
-def of(name, answers):
+def of_form(name, answers):
     """A rule for the scenarios of one form."""
 
     def told(scenario):
@@ -51,10 +52,9 @@ def of(name, answers):
 
 def without_limits(refusal):
     def told(scenario):
-        making = scenario.given[0] if scenario.given else None
-        if not hasattr(making, "refusal") or making.refusal() != refusal:
+        if scenario.name not in ENUMERATORS or scenario.given[0].refusal() != refusal:
             return None
-        return model.row_calls(making, *scenario.lists)
+        return model.row_calls(*scenario.given, *scenario.lists)
 
     return told
 
@@ -117,7 +117,7 @@ def skipped_without_end(arguments, source):
     return [*lines[: lines.index("end")], f"endless: an ended source was asked {PATIENCE} times"]
 
 
-def selector_first(rule, items, selectors, calls=called):
+def selector_first(rule, items, selectors, calls=played_by_calls):
     """A selector is drawn, and then a datum whatever the selector says; nothing is drawn for a selector without a truth."""
     says = model.nonzero(rule)
 
@@ -161,20 +161,20 @@ def has_a_fault_of_the_data(scenario):
 
 
 def draws_after_the_end(scenario):
-    to_an_end = selector_first(*scenario.given, *ahead(scenario), called_to_an_end)
+    to_an_end = selector_first(*scenario.given, *ahead(scenario), played_to_an_end)
     return selector_first(*scenario.given, *ahead(scenario)) != to_an_end
 
 
 ORIGINAL = [
     *LIMITS,
-    Difference("islice asks an ended source while it skips", "islice 1000,_ ; -", of("islice", skipped_without_end)),
-    Difference("islice with a step of 0", "islice 0,1,0 ; 1", of("islice", step_of_nothing)),
-    Difference("islice draws past its stop", "islice 0,1,2 ; 0 1", of("islice", sliced_to_the_next_number)),
+    Difference("islice asks an ended source while it skips", "islice 1000,_ ; -", of_form("islice", skipped_without_end)),
+    Difference("islice with a step of 0", "islice 0,1,0 ; 1", of_form("islice", step_of_nothing)),
+    Difference("islice draws past its stop", "islice 0,1,2 ; 0 1", of_form("islice", sliced_to_the_next_number)),
     Difference("compress, a fault after its end", "compress nonzero ; - ; !1:0:0", selector_first_where(meets_a_fault_after_our_end)),
     Difference("compress, a fault of the selectors", "compress nonzero ; 7 ; !1:0:0", selector_first_where(has_a_fault_of_the_selectors)),
     Difference("compress, a fault of the data", "compress nonzero ; !1:0:0 ; 0", selector_first_where(has_a_fault_of_the_data)),
     Difference("compress draws after its end", "compress nonzero ; - ; 1 1", selector_first_where(draws_after_the_end)),
-    Difference("compress draws the selector first", "compress nonzero ; 7 ; -", of("compress", selector_first)),
+    Difference("compress draws the selector first", "compress nonzero ; 7 ; -", of_form("compress", selector_first)),
 ]
 
 
@@ -193,7 +193,7 @@ def ended_by_a_fault(name):
         if scenario.name != name:
             return None
         sources = ahead(scenario)
-        given = model.generator(name, scenario.given, sources)
+        given = model.given_by(name, scenario.given, sources)
         return None if given is None else model.played(up_to_a_fault(given), sources)
 
     return told
@@ -222,7 +222,7 @@ def datum_for_every_call(rule, items, selectors):
                 return item
         return END
 
-    return called(step, [items, selectors])
+    return played_by_calls(step, [items, selectors])
 
 
 def number_wrapped(arguments, source):
@@ -243,13 +243,13 @@ def unbounded(joining, initial, source):
 
 CPYTHON = [
     *LIMITS,
-    Difference("CPython's chain goes on after an exception", "chain ; !1:0:0 ; 1", of("chain", uncut)),
-    Difference("CPython's islice wraps its next number", f"islice 1,_,{MAXSIZE} ; 0 1 2", of("islice", number_wrapped)),
+    Difference("CPython's chain goes on after an exception", "chain ; !1:0:0 ; 1", of_form("chain", uncut)),
+    Difference("CPython's islice wraps its next number", f"islice 1,_,{MAXSIZE} ; 0 1 2", of_form("islice", number_wrapped)),
     Difference("CPython's islice ends at an exception", "islice _ ; !1:0:0 1", ended_by_a_fault("islice")),
     Difference("CPython's pairwise ends at an exception", "pairwise ; !1:0:0 1", ended_by_a_fault("pairwise")),
     Difference("CPython's zip_longest ends at an exception", "zip_longest 8 8 ; !1:0:0 1 ; -", ended_by_a_fault("zip_longest")),
-    Difference("CPython's compress draws after its end", "compress nonzero ; 7 8 ; -", of("compress", datum_for_every_call)),
-    Difference("sums have 64 bits", f"accumulate sum - ; {2**64 - 1} 1", of("accumulate", unbounded)),
+    Difference("CPython's compress draws after its end", "compress nonzero ; 7 8 ; -", of_form("compress", datum_for_every_call)),
+    Difference("sums have 64 bits", f"accumulate sum - ; {2**64 - 1} 1", of_form("accumulate", unbounded)),
 ]
 
 

@@ -241,7 +241,7 @@ def played(given, sources):
     return [shown(s) for s in given] + ["end"] * ENDS + ([left(sources)] if sources else [])
 
 
-def generator(name, given, sources):
+def given_by(name, given, sources):
     """What a source or an adapter gives, or None where its making is refused."""
     if name == "islice":
         bounds = slice_bounds(*given)
@@ -275,7 +275,7 @@ def answers(scenario):
         refusal = making.refusal()
         return [f"refused {refusal}"] if refusal else row_calls(making, lents)
     sources = [Ahead(listed) for listed in scenario.lists]
-    given = generator(scenario.name, scenario.given, sources)
+    given = given_by(scenario.name, scenario.given, sources)
     return [f"refused {SLICE}"] if given is None else played(given, sources)
 
 

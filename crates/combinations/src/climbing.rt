@@ -105,6 +105,7 @@ impl Climbing {
         self.indices.is_none()
     }
 
+    // The row at which it stands, if one is left.
     pub(crate) fn row<K: Climb>(&self) -> Option<&[u16]>
         requires { Climbs K.above self.now }
         ensures { MatchOption result (rows_ahead K.rows self.now ≡ []) (λ row. rows_ahead K.rows self.now ≡ row.now ∷ other_rows (rows_ahead K.rows self.now)) }

@@ -50,6 +50,7 @@ pub struct Combinations {
 }
 
 impl Combinations {
+    // A pool above 256 elements is refused, and then a row above 64 places.
     pub fn new(n: usize, r: usize) -> Result<Combinations, Refusal>
         ensures { MatchResult result
             (λ e. (unmakable 256 64 (n ∷ []) r ≡ None)

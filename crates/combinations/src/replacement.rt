@@ -51,6 +51,7 @@ pub struct CombinationsWithReplacement {
 }
 
 impl CombinationsWithReplacement {
+    // A pool above 256 elements is refused, and then a row above 64 places.
     pub fn new(n: usize, r: usize) -> Result<CombinationsWithReplacement, Refusal>
         ensures { MatchResult result
             (λ e. (unmakable 256 64 (n ∷ []) r ≡ None)

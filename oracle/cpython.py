@@ -1,8 +1,10 @@
 #!/usr/bin/env python3.12
-"""Plays scenarios on CPython's own itertools: reads them from standard input, one to a line, and writes what it answers.
+"""Plays scenarios on CPython's own itertools: reads them from standard input, one to a line, and
+writes what it answers.
 
-A fault is an exception. Python has no records, no limits, no lent pools, buffers or stores, and one fill: a scenario
-that asks for them has the one answer `skipped` with a reason, and a call that does is answered `unasked`.
+A fault is an exception. Python has no records, no limits, no lent pools, buffers or stores, and one
+fill: a scenario that asks for them has the one answer `skipped` with a reason, and a call that does
+is answered `unasked`.
 """
 
 import itertools
@@ -10,7 +12,8 @@ import operator
 import sys
 
 from protocol import (
-    BRANCHES, ENDS, ENUMERATORS, KEY_FAULT, LARGEST, PREDICATE_FAULT, SLICE, UNASKED, Ahead, Fault, answer_line, is_silent, left, shown, told,
+    BRANCHES, ENDS, ENUMERATORS, KEY_FAULT, LARGEST, PREDICATE_FAULT, SLICE, UNASKED, Ahead, Fault,
+    answer_line, is_silent, left, listed_lines, shown, store_line, told,
 )
 
 
@@ -59,12 +62,14 @@ def iterator(scenario, sources):
         return iter(range(*given))
     if name in ("takewhile", "dropwhile"):
         (rule,) = given
-        return getattr(itertools, name)(asked(rule, lambda item: item < rule.number, PREDICATE_FAULT), *sources)
+        return getattr(itertools, name)(asked(rule, lambda item: item < rule.number,
+                                              PREDICATE_FAULT), *sources)
     if name == "islice":
         return itertools.islice(*sources, *given[0])
     if name == "accumulate":
         joining, initial = given
-        return itertools.accumulate(*sources, max if joining == "max" else operator.add, initial=initial)
+        return itertools.accumulate(*sources, max if joining == "max" else operator.add,
+                                    initial=initial)
     if name == "zip_longest":
         fill, other = given
         if fill != other:
@@ -100,18 +105,24 @@ def adapter(scenario):
 def rows_over(making, pools):
     if making.name == "product":
         return itertools.product(*pools, repeat=making.count)
-    rule = getattr(itertools, {"replacement": "combinations_with_replacement"}.get(making.name, making.name))
+    rule = getattr(itertools, {"replacement": "combinations_with_replacement"}.get(making.name,
+                                                                                   making.name))
     return rule(*pools) if making.count is None else rule(*pools, making.count)
+
+
+def positions(making):
+    """The rows over the positions of the pools, which are the rows of places."""
+    if making.width > LARGEST or any(length > LARGEST for length in making.lengths):
+        raise Skipped("too large to run")
+    return rows_over(making, [range(length) for length in making.lengths])
 
 
 def enumerator(scenario):
     (making,), (lents,) = scenario.given, scenario.lists
-    if making.width > LARGEST or any(length > LARGEST for length in making.lengths):
-        raise Skipped("too large to run")
+    places = positions(making)
     starts = itertools.accumulate(making.lengths, initial=1000)
-    # once over the positions, whose rows are the places, and once over the elements
-    places = rows_over(making, [range(length) for length in making.lengths])
-    elements = rows_over(making, [range(start, start + length) for start, length in zip(starts, making.lengths)])
+    pools = [range(start, start + length) for start, length in zip(starts, making.lengths)]
+    elements = rows_over(making, pools)
     lines = []
     for lent in lents:
         lent = lent or making.fitting()
@@ -124,31 +135,39 @@ def enumerator(scenario):
     return lines
 
 
+def listing(scenario):
+    making, size = scenario.given
+    rows = positions(making)
+    if size is not None and size < making.least_buffer():
+        return [UNASKED]
+    return listed_lines(rows)
+
+
 def tee(scenario):
+    """Of a store there is its length alone: a step that would want a place more is not asked."""
     (branches, store), (steps, calls) = scenario.given, scenario.lists
-    if branches is not None and branches > BRANCHES:
-        raise Skipped("too many branches")
-    if store > LARGEST:
+    if max(branches or 0, store) > LARGEST:
         raise Skipped("too large to run")
     source = Ahead(steps, raises=Raised)
     tees = [*itertools.tee(source, *[] if branches is None else [branches])]
     passed = [0] * len(tees)
+    stored = 0
     lines = []
-    for name, at, *length in calls:
-        stored = [s for s in steps[: source.drawn] if not isinstance(s, Fault)]
-        if at >= len(tees) or name == "c" and len(tees) == BRANCHES:
+    for name, at, *lent in calls:
+        if at >= len(tees) or name == "c" and len(tees) >= BRANCHES:
             lines.append(UNASKED)
         elif name == "c":
             lines.append(f"branch {len(tees)}")
             tees.append(tees[at].__copy__())
             passed.append(passed[at])
-        elif length != [None] and length != [store] or passed[at] == len(stored) >= store:
+        elif lent not in ([None], [store]) or passed[at] == stored == store:
             lines.append(UNASKED)
         else:
             lines.append(said(lambda: next(tees[at])))
             passed[at] += lines[-1].startswith("item")
-    stored = [s for s in steps[: source.drawn] if not isinstance(s, Fault)]
-    return lines + [left([source]), " ".join(["store", *map(str, (stored + [7777] * store)[:store])])]
+            stored = max(stored, passed[at])
+    items = [s for s in steps[: source.drawn] if not isinstance(s, Fault)]
+    return [*lines, left([source]), store_line(items, store)]
 
 
 def groups(scenario):
@@ -179,7 +198,8 @@ def answers(scenario):
             raise Skipped("itertools has no records")
         if scenario.name in ENUMERATORS:
             return enumerator(scenario)
-        return {"tee": tee, "groupby": groups}.get(scenario.name, adapter)(scenario)
+        by_name = {"tee": tee, "groupby": groups, "listing": listing}
+        return by_name.get(scenario.name, adapter)(scenario)
     except Skipped as skipped:
         return [f"skipped: {skipped}"]
 

@@ -1,14 +1,19 @@
-"""What the rules answer to a scenario: a model of each, written from the rules and not from any program.
+"""What the rules answer to a scenario: a model of each, written from the rules and not from any
+program.
 
-An adapter is a generator over lists of steps: one that has returned says end for ever and draws nothing. The rows of
-an enumerator are those that grow place by place, the lowest place first.
+An adapter is a generator over lists of steps: one that has returned says end for ever and draws
+nothing. The rows of an enumerator are those that grow place by place, the lowest place first. Tees
+and groups answer call by call.
 """
 
 import struct
 import sys
 
 from protocol import (
-    ENDS, ENUMERATORS, JOINING_FAULT, MAXSIZE, PREDICATE_FAULT, SLICE, Ahead, Block, Fault, answer_line, left, shown, told,
+    BRANCHES, ENDS, ENUMERATORS, JOINING_FAULT, KEY_FAULT, MAXSIZE, NO_BRANCH, OTHER_STORE,
+    PREDICATE_FAULT, SHORT_BUFFER, SLICE, STORE_FULL, TWO, UNTOUCHED, Ahead, Block, Fault,
+    answer_line,
+    left, listed_lines, shown, store_line, told,
 )
 
 END = object()
@@ -18,7 +23,8 @@ sys.setrecursionlimit(10_000)
 
 
 def asked(rule, says):
-    """A predicate: what `says` says of an item, but a fault of the item that the rule has no answer for."""
+    """A predicate: what `says` says of an item, but a fault of the item that the rule has no answer
+    for."""
     return lambda item: PREDICATE_FAULT if item == rule.bad else says(item)
 
 
@@ -69,7 +75,8 @@ def islice(start, stop, stride, drawn, source):
         if isinstance(s, Fault):
             yield s
             continue
-        if position >= start and (stop is None or position < stop) and (position - start) % stride == 0:
+        within = position >= start and (stop is None or position < stop)
+        if within and (position - start) % stride == 0:
             yield s
         position += 1
 
@@ -198,7 +205,8 @@ def permutation_rows(n, r):
 def rows(making):
     if making.name == "product":
         return product_rows(making.lengths, making.width)
-    rule = {"combinations": combination_rows, "replacement": replacement_rows, "permutations": permutation_rows}
+    rule = {"combinations": combination_rows, "replacement": replacement_rows,
+            "permutations": permutation_rows}
     return rule[making.name](making.lengths[0], making.width)
 
 
@@ -226,11 +234,126 @@ def row_calls(making, lents):
     return [row_call(making, ahead, lent) for lent in lents]
 
 
+def listing(making, size):
+    if size is not None and size < making.least_buffer():
+        return [f"refused {SHORT_BUFFER}", "rest kept"]
+    return listed_lines(rows(making))
+
+
+def tee_calls(branches, places, steps, calls, borrowed=True, most=BRANCHES):
+    """The lines of a tee of so many branches. A store that a step is `borrowed` is one of its own,
+    whatever its length; where it is not, one of the tee's length is the tee's."""
+    source, store = Ahead(steps), [UNTOUCHED] * places
+    # how many items each branch has passed, and how many are stored in all
+    passed, stored = [0] * branches, 0
+    lines = []
+    for call, branch, *lent in calls:
+        if call == "c":
+            if branch >= len(passed) or len(passed) >= most:
+                lines.append(f"refused {NO_BRANCH}")
+            else:
+                lines.append(f"branch {len(passed)}")
+                passed.append(passed[branch])
+            continue
+        length = places if lent == [None] else lent[0]
+        if length != places:
+            lines.append(f"refused {OTHER_STORE}")
+            continue
+        if branch >= len(passed):
+            lines.append(f"refused {NO_BRANCH}")
+            continue
+        own = lent == [None] or not borrowed
+        read = store if own else [UNTOUCHED] * places
+        if passed[branch] == stored:
+            if stored == places:
+                lines.append(f"refused {STORE_FULL}")
+                continue
+            s = next(source, END)
+            if s is END or isinstance(s, Fault):
+                lines.append("end" if s is END else shown(s))
+                continue
+            read[stored] = s
+            stored += 1
+        lines.append(shown(read[passed[branch]]))
+        passed[branch] += 1
+    return [*lines, left([source]), store_line(store, places)]
+
+
+def tee(branches, places, steps, calls):
+    branches = TWO if branches is None else branches
+    return [f"refused {NO_BRANCH}"] if branches > BRANCHES else tee_calls(branches, places, steps,
+                                                                          calls)
+
+
+class Groups:
+    """Runs of items with equal keys, by group calls and item calls."""
+
+    def __init__(self, key, steps):
+        self.key, self.source = key, Ahead(steps)
+        # the key of the run that was come to last, and how many groups were given
+        self.run, self.given = END, 0
+        # the number that item calls have to tell
+        self.current = None
+        # an item that was drawn and neither answered nor skipped, and whether it is the first of a
+        # run
+        # that no group call has given yet
+        self.waiting, self.ahead = END, False
+
+    def draw(self):
+        """An item and its key; or a fault, of the source or of the key, which loses the item; or
+        the end."""
+        item = next(self.source, END)
+        if item is END or isinstance(item, Fault):
+            return item, item
+        if self.key is None:
+            return item, item
+        return item, KEY_FAULT if item == self.key.bad else item % self.key.number
+
+    def group(self):
+        self.current = None
+        while not self.ahead:
+            item, key = self.draw()
+            if key is END or isinstance(key, Fault):
+                return key
+            if self.run is END or key != self.run:
+                self.waiting, self.run, self.ahead = item, key, True
+        self.ahead = False
+        self.given += 1
+        self.current = self.given
+        return self.run
+
+    def item(self, number):
+        if number != self.current:
+            return END
+        if self.waiting is not END:
+            item, self.waiting = self.waiting, END
+            return item
+        item, key = self.draw()
+        if key is END or isinstance(key, Fault):
+            return key
+        if key == self.run:
+            return item
+        self.waiting, self.run, self.ahead, self.current = item, key, True, None
+        return END
+
+
+def groupby(key, steps, calls):
+    groups, lines = Groups(key, steps), []
+    for number in calls:
+        s = groups.group() if number is None else groups.item(number)
+        if s is END or isinstance(s, Fault):
+            lines.append("end" if s is END else shown(s))
+        else:
+            lines.append(f"group {s} {groups.given}" if number is None else shown(s))
+    return [*lines, left([groups.source])]
+
+
 def slice_bounds(arguments):
     """Start, stop and step, or None for arguments that are refused."""
     if len(arguments) not in (1, 2, 3) or any(a is not None and a > MAXSIZE for a in arguments):
         return None
-    start, stop, stride = ([None] + arguments + [None])[:3] if len(arguments) == 1 else (arguments + [None])[:3]
+    arguments = [None, *arguments] if len(arguments) == 1 else arguments
+    start, stop, stride = [*arguments, None][:3]
     if stride == 0:
         return None
     return start or 0, stop, 1 if stride is None else stride
@@ -268,12 +391,14 @@ def given_by(name, given, sources):
 def answers(scenario):
     """The answers by the rules."""
     if scenario.name in ("tee", "groupby"):
-        # replay does not play them yet
-        return ["bad scenario"]
-    if scenario.name in ENUMERATORS:
-        (making,), (lents,) = scenario.given, scenario.lists
-        refusal = making.refusal()
-        return [f"refused {refusal}"] if refusal else row_calls(making, lents)
+        played_by = {"tee": tee, "groupby": groupby}[scenario.name]
+        return played_by(*scenario.given, *scenario.lists)
+    if scenario.name in ENUMERATORS or scenario.name == "listing":
+        refusal = scenario.given[0].refusal()
+        if refusal:
+            return [f"refused {refusal}"]
+        answers_of = listing if scenario.name == "listing" else row_calls
+        return answers_of(*scenario.given, *scenario.lists)
     sources = [Ahead(listed) for listed in scenario.lists]
     given = given_by(scenario.name, scenario.given, sources)
     return [f"refused {SLICE}"] if given is None else played(given, sources)

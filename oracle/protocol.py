@@ -1,22 +1,42 @@
 """The text of a scenario and of its answers, as docs/replay.md has them."""
 
+import itertools
 import re
 from dataclasses import dataclass
 
 MAXSIZE = 2**63 - 1
 
-# The refusals that scenarios of this program can meet, by what they say.
+# The refusals by what they say. No scenario is long enough for the seventh, of a group call beyond
+# 2^32 - 1.
 POOL_TOO_LONG, TOO_MANY_PLACES, OTHER_POOL, SHORT_BUFFER, SLICE = 1, 2, 3, 4, 5
+STORE_FULL, NO_BRANCH, OTHER_STORE = 6, 8, 9
 
 # How often an adapter or a source is to say end.
 ENDS = 3
 
-# What a run of the others holds: places of a row, elements of a pool and places of a store; how often no pools are repeated;
-# the branches of a tee. After so many calls of an ended source in one call, the driver of the original gives up.
+# What a run of the others holds: places of a row, elements of a pool, places of a store and
+# branches
+# made at once; and how often no pools are repeated. After so many calls of an ended source in one
+# call,
+# the driver of the original gives up.
 LARGEST = 1000
 LONGEST = 1_000_000
-BRANCHES = 16
 PATIENCE = 1000
+
+# The branches of a tee, at the most, and where a making does not say how many.
+BRANCHES = 16
+TWO = 2
+
+# What stands in a place that nothing was written to.
+UNTOUCHED = 7777
+
+# A listing has so many rows at the most; its buffer has so many bytes for a place of each, and so
+# many for
+# the last line. A scenario's is no longer than the last number.
+LISTED_ROWS = 100
+PLACE_BYTES = 4
+LAST_LINE_BYTES = 5
+LONGEST_BUFFER = 32_768
 
 # In the place of an answer to a call that only we refuse.
 UNASKED = "unasked"
@@ -37,6 +57,7 @@ SHAPES = {
     "zip_longest": (2, 2),
     "tee": (2, 2),
     "groupby": (1, 2),
+    "listing": (3, 1),
     **{name: (2, 1) for name in ENUMERATORS},
 }
 
@@ -66,8 +87,9 @@ class Rule:
 
 @dataclass
 class Making:
-    """What the making of an enumerator takes: the pools' lengths, how many places a row has, and what says so: how often
-    the pools of a product are repeated, or else the r, None where it is absent."""
+    """What the making of an enumerator takes: the pools' lengths, how many places a row has, and
+    what says so: how often the pools of a product are repeated, or else the r, None where it is
+    absent."""
 
     name: str
     lengths: list
@@ -84,8 +106,13 @@ class Making:
         return TOO_MANY_PLACES if len(self.lengths) > 64 or self.width > 64 else None
 
     def fitting(self):
-        """What a call is lent that does not say: the pool, and buffers that are two longer than a row."""
+        """What a call is lent that does not say: the pool, and buffers that are two longer than a
+        row."""
         return self.size, self.width + 2, self.width + 2
+
+    def least_buffer(self):
+        """How many bytes a listing has to be lent."""
+        return LISTED_ROWS * max(1, PLACE_BYTES * self.width) + LAST_LINE_BYTES
 
     def refused(self, pool, places, elements):
         if pool != self.size:
@@ -106,7 +133,8 @@ def need(condition):
 
 
 def number(word, bits=64):
-    need(re.fullmatch("[0-9]+", word))
+    """A line is ASCII, so its decimal characters are the ten digits."""
+    need(word.isdecimal())
     digits = word.lstrip("0") or "0"
     need(len(digits) <= 20 and int(digits) < 2**bits)
     return int(digits)
@@ -138,7 +166,8 @@ def lent(word):
 
 
 def branch(word):
-    """A step of a branch and the length of the store that it is lent, None for the tee's own; or a copy of a branch."""
+    """A step of a branch and the length of the store that it is lent, None for the tee's own; or a
+    copy of a branch."""
     name, *numbers = word[:1], *word[1:].split(":")
     need(name == "c" and len(numbers) == 1 or name == "s" and len(numbers) <= 2)
     return (name, *map(number, numbers), *[None] * (name == "s" and len(numbers) == 1))
@@ -178,6 +207,13 @@ def making(name, words):
     return Making(name, [n], n if r is None else r, r)
 
 
+def buffer_size(part):
+    """The bytes of a listing's buffer, None for as few as are not refused."""
+    size = optional(part)
+    need(size is None or size <= LONGEST_BUFFER)
+    return size
+
+
 def record_bytes(digits):
     need(digits == "-" or re.fullmatch("([0-9a-fA-F]{2})+", digits))
     return bytes.fromhex(digits.replace("-", ""))
@@ -215,20 +251,25 @@ WORDS = {
 
 def read(line):
     """A line of bytes as a scenario."""
-    need(all(0x20 <= byte < 0x7F for byte in line))
+    need(line.isascii() and line.decode("ascii").isprintable())
     head, *parts = line.decode("ascii").split(" ; ")
     name, *words = head.split(" ")
     need(name in SHAPES and (len(words), len(parts)) == SHAPES[name])
     if name in ENUMERATORS:
         return Scenario(name, (making(name, words),), [calls(parts[0], lent)])
+    if name == "listing":
+        need(words[0] in ENUMERATORS)
+        return Scenario(name, (making(words[0], words[1:]), buffer_size(parts[0])), [])
     given = WORDS[name](*words)
     if name in ("tee", "groupby"):
-        return Scenario(name, given, [steps(parts[0]), calls(parts[1], branch if name == "tee" else group)])
+        return Scenario(name, given,
+                        [steps(parts[0]), calls(parts[1], branch if name == "tee" else group)])
     return Scenario(name, given, [steps(part) for part in parts])
 
 
 class Ahead:
-    """The steps that a source has ahead, and how many were drawn. One that is a fault is raised if `raises` says how."""
+    """The steps that a source has ahead, and how many were drawn. One that is a fault is raised if
+    `raises` says how."""
 
     def __init__(self, listed, raises=None):
         self.listed = listed
@@ -265,11 +306,29 @@ def left(sources):
     return " ".join(["left"] + [str(source.left()) for source in sources])
 
 
+def lent_words(front, length):
+    """What stands in a lent buffer or store of a length: what was written to its front, and what
+    was there."""
+    return [*map(str, front)] + [str(UNTOUCHED)] * (length - len(front))
+
+
 def told(answer, row, places, picked, elements):
-    """The answer to a call and both buffers, with what was written to the front of each and what was there behind it."""
-    written = [*map(str, row)] + ["7777"] * (places - len(row))
-    copied = [*map(str, picked)] + ["7777"] * (elements - len(picked))
-    return " ".join([answer, "places", *written, "elements", *copied])
+    """The answer to a call, and both buffers."""
+    words = [answer, "places", *lent_words(row, places), "elements", *lent_words(picked, elements)]
+    return " ".join(words)
+
+
+def store_line(front, length):
+    return " ".join(["store", *lent_words(front[:length], length)])
+
+
+def listed_lines(rows):
+    """The answers to a listing of rows that is not refused."""
+    rows = [*itertools.islice(rows, LISTED_ROWS + 1)]
+    text = [" ".join(map(str, row)) for row in rows[:LISTED_ROWS]]
+    text.append("more" if len(rows) > LISTED_ROWS else "end")
+    written = sum(len(line) + 1 for line in text)
+    return [f"listed {written}", *(f"| {line}" for line in text), "rest kept"]
 
 
 def answer_line(line, answers):

@@ -1,8 +1,10 @@
-"""The sample of the original's answers, which the gate plays on replay: sample.txt, written by `oracle/run FOLDER --sample`.
+"""The sample of the original's answers, which the gate plays on replay: sample.txt, written by
+`oracle/run FOLDER --sample`.
 
-The driver of the original is compiled so that it tells which edges of the code each scenario goes over. Among the
-scenarios that the original answers word for word as the rules do, those are chosen that together go over each edge of
-its module that any of them goes over, several times, shorter ones first.
+The driver of the original is compiled so that it tells which edges of the code each scenario goes
+over. Among the scenarios that the original answers word for word as the rules do, those are chosen
+that together go over each edge of its module that any of them goes over, several times, shorter
+ones first.
 """
 
 import re
@@ -24,14 +26,21 @@ LEAST = 200
 LONGEST_LINE = 90
 LONGEST_ANSWER = 1500
 
-COVERAGE = ["-Cpasses=sancov-module", *(f"-Cllvm-args=-sanitizer-coverage-{what}" for what in ("level=3", "inline-8bit-counters", "pc-table"))]
+WAYS = ("level=3", "inline-8bit-counters", "pc-table")
+COVERAGE = [
+    "-Cpasses=sancov-module", *(f"-Cllvm-args=-sanitizer-coverage-{way}" for way in WAYS)
+]
 
 # The functions of the original that are asked for: makings and next calls, and what these call.
-BODIES = re.compile(r"decl\.\.PyItertools(\w+).*?(next|py_new|slot_new|update_idxs|advance|get_item|copy|from_iter)17h|(pyobject_to_opt_usize|is_current)")
+CALLED = "next|py_new|slot_new|update_idxs|advance|get_item|copy|from_iter"
+BODIES = re.compile(
+    rf"decl\.\.PyItertools(\w+).*?({CALLED})17h|(pyobject_to_opt_usize|is_current)"
+)
 LEFT_OUT = {"Count", "Cycle", "Repeat", "Starmap", "FilterFalse", "Batched"}
 
 HEAD = """\
-# Scenarios, and below each what the Rust original answers, as the text of its module was run by oracle/run FOLDER --sample.
+# Scenarios, and below each what the Rust original answers, as the text of its module was run by
+# oracle/run FOLDER --sample.
 # They are such that the answers by the rules are the same word for word.
 """
 
@@ -53,7 +62,8 @@ def blocks():
 
 def play(program, lines):
     """What a program answers to lines, and what it writes beside."""
-    run = subprocess.run(program, input=b"".join(line + b"\n" for line in lines), capture_output=True, check=True)
+    run = subprocess.run(program, input=b"".join(line + b"\n" for line in lines),
+                         capture_output=True, check=True)
     answers = run.stdout.decode().split("\n.\n")[:-1]
     return [answer.split("\n") for answer in answers], run.stderr.decode().splitlines()
 
@@ -70,8 +80,10 @@ def stale(original):
 
 
 def edges_of_bodies(program, places):
-    """The places in the bodies of the original that are asked for, each with its function and line."""
-    found = subprocess.run(["addr2line", "-f", "-e", *program], input="\n".join(places), text=True, capture_output=True, check=True)
+    """The places in the bodies of the original that are asked for, each with its function and
+    line."""
+    found = subprocess.run(["addr2line", "-f", "-e", *program], input="\n".join(places), text=True,
+                           capture_output=True, check=True)
     lines = iter(found.stdout.splitlines())
     bodies = {}
     for place, name, at in zip(places, lines, lines):
@@ -101,7 +113,9 @@ def chosen(lines, gone):
     for _ in range(TIMES):
         wanted = frozenset().union(*(way for way, left in by_way.items() if left))
         while wanted:
-            way = max((way for way, left in by_way.items() if left), key=lambda way: (len(way & wanted), -len(by_way[way][0])), default=frozenset())
+            way = max((way for way, left in by_way.items() if left),
+                      key=lambda way: (len(way & wanted), -len(by_way[way][0])),
+                      default=frozenset())
             if not way & wanted:
                 break
             wanted -= way
@@ -109,12 +123,19 @@ def chosen(lines, gone):
     return picked
 
 
-def write(lines, later, original, counting):
-    """Chooses the sample among lines and writes it, and tells which edges no scenario reaches, also of those to be played
-    later. An edge without a line is the compiler's own, and many are checks of an index."""
-    gone, bodies = ways(counting, lines + later)
+def is_short(line, answers):
+    return len(line) <= LONGEST_LINE and len("".join(answers)) <= LONGEST_ANSWER
+
+
+def write(lines, original, counting):
+    """Chooses the sample among lines and writes it, and tells which edges no scenario reaches. An
+    edge without a line is the compiler's own, and many are checks of an index."""
+    gone, bodies = ways(counting, lines)
     told, _ = play(original, lines)
-    same = [at for at, line in enumerate(lines) if len(line) <= LONGEST_LINE and told[at] == model.by_the_rules(line) and len("".join(told[at])) <= LONGEST_ANSWER]
+    same = [
+        at for at, line in enumerate(lines)
+        if is_short(line, told[at]) and told[at] == model.by_the_rules(line)
+    ]
     picked = chosen([lines[at] for at in same], [gone[at] for at in same])
     answers = dict(zip(lines, told))
     order = {line: at for at, line in enumerate(lines)}
@@ -124,7 +145,10 @@ def write(lines, later, original, counting):
             out.write("\n".join([line.decode(), *answers[line], ".", ""]))
     reached = frozenset().union(*gone)
     in_sample = frozenset().union(*(way for line, way in zip(lines, gone) if line in {*picked}))
-    print(f"{len(picked)} scenarios, over {len(in_sample)} of {len(bodies)} edges in the original's bodies; {len(reached)} are reached by any scenario")
+    print(
+        f"{len(picked)} scenarios, over {len(in_sample)} of {len(bodies)} edges in the original's "
+        f"bodies; {len(reached)} are reached by any scenario"
+    )
     missed = Counter(bodies[edge] for edge in bodies.keys() - reached)
     for (name, body, line), count in sorted(missed.items()):
         print(f"not reached: {name} {body} line {line}, {count} of its edges")

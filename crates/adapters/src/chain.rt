@@ -1,12 +1,15 @@
 ghost use Rattle.std.specs.Prelude.{◌≡◌, ◌++◌};
 ghost use Rattle.steps.specs.Steps.{first as first_answer, rest as rest_of};
-ghost use Rattle.laws.specs.Chain.{until_fault, OneAfterOther};
-ghost use Rattle.adapters.specs.Stages.{chains, first_left, second_left, stage_after, in_second};
+ghost use Rattle.steps.specs.Below.{Drew, fault_of, Two};
+ghost use Rattle.laws.specs.Items.{faults};
+ghost use Rattle.laws.specs.Run.{Follows};
+ghost use Rattle.laws.specs.Chain.{until_fault, OneAfterOther, CutAtFault};
+ghost use Rattle.adapters.specs.Chain.{first_left, second_left, stage_after, chain_first, chain_second, chain_stage, chain_ahead, chain_run, chain_end, chain_below};
 ghost use Rattle.adapters.specs.declared.chain.Stage.TheVariants.{First as at_first};
 
 use steps::{Answer, Fault, Source};
 
-// Which source a chain draws from.
+/// Which source a chain draws from.
 #[derive(Clone, Copy, PartialEq, Eq, Debug)]
 pub enum Stage {
     First,
@@ -14,7 +17,10 @@ pub enum Stage {
     Over,
 }
 
-// Gives the steps of one source and then those of another; a fault of either is the last.
+/// Gives the steps of one source and then those of another: `1 2` and `3` give `1 2 3`.
+///
+/// A fault of either is answered as it is, and is the last step: `1 !` and `3` give `1 !`. Nothing of the second source is drawn
+/// before the first has ended.
 #[derive(Drop)]
 pub struct Chain<A, B> {
     first: A,
@@ -23,12 +29,24 @@ pub struct Chain<A, B> {
 }
 
 impl<A: Source, B: Source<Item = A::Item>> Chain<A, B> {
-    // what is ahead is spelled out, since a chain is a source only where its items can be dropped
-    #[tactic(auto, using(laws::proofs::Chains::one_after_other))]
+    /// Takes over two sources, and draws nothing.
+    // what is ahead is told by a word, since a chain is a source only where its items can be dropped
+    #[tactic(auto, using(laws::proofs::Chain::one_after_other, laws::proofs::Chain::chain_faults))]
     pub fn new(first: A, second: B) -> Self
-        ensures ahead { chains result.stage (A.Source.ahead result.first) (B.Source.ahead result.second) ≡ until_fault (A.Source.ahead first ++ B.Source.ahead second) }
-        ensures law { OneAfterOther (A.Source.ahead first) (B.Source.ahead second) (chains result.stage (A.Source.ahead result.first) (B.Source.ahead result.second)) }
-        ensures holds { (result.first ≡ first) × (result.second ≡ second) × (result.stage ≡ at_first) }
+        ensures ahead { chain_ahead A.Source.ahead B.Source.ahead result
+            ≡ until_fault (A.Source.ahead first ++ B.Source.ahead second) }
+        ensures law { OneAfterOther (A.Source.ahead first) (B.Source.ahead second)
+            (chain_ahead A.Source.ahead B.Source.ahead result) }
+        ensures holds { (chain_first result ≡ first) × (chain_second result ≡ second)
+            × (chain_stage result ≡ at_first) }
+        ensures faults_given { faults (chain_ahead A.Source.ahead B.Source.ahead result)
+            ++ (faults (chain_end A.Source.ahead B.Source.ahead result).first
+            ++ faults (chain_end A.Source.ahead B.Source.ahead result).second)
+            ≡ faults (A.Source.ahead first) ++ faults (B.Source.ahead second) }
+        ensures drawn_over_run { CutAtFault (A.Source.ahead first) (B.Source.ahead second)
+            (chain_ahead A.Source.ahead B.Source.ahead result)
+            (chain_run A.Source.ahead B.Source.ahead result)
+            (chain_end A.Source.ahead B.Source.ahead result) }
     {
         Chain {
             first,
@@ -44,14 +62,34 @@ where
 {
     type Item = A::Item;
 
-    ghost ahead = { λ s. chains s.stage (A.Source.ahead s.first) (B.Source.ahead s.second) };
+    ghost ahead = { λ s. chain_ahead A.Source.ahead B.Source.ahead s };
 
+    ghost loans = { λ s. A.Source.loans (chain_first s) ++ B.Source.loans (chain_second s) };
+
+    ghost bottom = { λ s. Two (A.Source.bottom (chain_first s)) (B.Source.bottom (chain_second s)) };
+
+    #[tactic(auto, using(crate::proofs::ChainLemmas::chain_call))]
     fn next(&mut self) -> Result<Answer<A::Item>, Fault>
         ensures gives { result ≡ first_answer (⟦<Chain<A, B> as Source>⟧.ahead self.old) }
-        ensures leaves { ⟦<Chain<A, B> as Source>⟧.ahead self.new ≡ rest_of (⟦<Chain<A, B> as Source>⟧.ahead self.old) }
-        ensures below_first { A.Source.ahead self.new.first ≡ first_left self.old.stage (A.Source.ahead self.old.first) }
-        ensures below_second { B.Source.ahead self.new.second ≡ second_left self.old.stage (A.Source.ahead self.old.first) (B.Source.ahead self.old.second) }
-        ensures stands { self.new.stage ≡ stage_after self.old.stage (A.Source.ahead self.old.first) (B.Source.ahead self.old.second) }
+        ensures leaves { ⟦<Chain<A, B> as Source>⟧.ahead self.new
+            ≡ rest_of (⟦<Chain<A, B> as Source>⟧.ahead self.old) }
+        ensures keeps_loans { ⟦<Chain<A, B> as Source>⟧.loans self.exit.now
+            ≡ ⟦<Chain<A, B> as Source>⟧.loans self.entry.now }
+        ensures draws { Drew (⟦<Chain<A, B> as Source>⟧.bottom self.old)
+            (⟦<Chain<A, B> as Source>⟧.bottom self.new) (fault_of result) }
+        ensures follows { Follows (chain_run A.Source.ahead B.Source.ahead self.old)
+            (chain_end A.Source.ahead B.Source.ahead self.old) result
+            (chain_below A.Source.ahead B.Source.ahead self.new)
+            (chain_run A.Source.ahead B.Source.ahead self.new)
+            (chain_end A.Source.ahead B.Source.ahead self.new) }
+        ensures below_first { A.Source.ahead (chain_first self.new)
+            ≡ first_left (chain_stage self.old) (A.Source.ahead (chain_first self.old)) }
+        ensures below_second { B.Source.ahead (chain_second self.new)
+            ≡ second_left (chain_stage self.old) (A.Source.ahead (chain_first self.old))
+            (B.Source.ahead (chain_second self.old)) }
+        ensures stands { chain_stage self.new
+            ≡ stage_after (chain_stage self.old) (A.Source.ahead (chain_first self.old))
+            (B.Source.ahead (chain_second self.old)) }
     {
         let stage = self.stage;
         // a fault leaves by `?` with nothing ahead

@@ -1,13 +1,14 @@
 -- What the record of climbing rows means, by the kind of its rows.
-use Rattle.std.specs.Prelude.{ℕ, List, take, option_map}
+use Rattle.std.specs.Prelude.{ℕ, List}
 use Rattle.std.specs.Option.{ForSome}
-use Rattle.rows.specs.Lists.{ahead_from}
-use Rattle.rows.specs.Climbs.{ClimbingRow}
+use Rattle.row_laws.specs.Calls.{Shown}
+use Rattle.row_laws.specs.Standing.{one_pool}
+use Rattle.row_laws.specs.Climbs.{ClimbingRow}
 use Rattle.combinations.specs.declared.state.Climbing.{Climbing}
 
--- the rows ahead: of all rows of the kind, those that do not come before the row where it stands
-abbrev pub rows_ahead : (ℕ → ℕ → List (List ℕ)) → Climbing → List (List ℕ)
-rows_ahead rows s = ahead_from (option_map (take s.choice.r) s.indices) (rows s.choice.n s.choice.r)
+-- what it shows: of all rows of the kind, those that do not come before the row where it stands
+abbrev pub shown_by : (ℕ → ℕ → List (List ℕ)) → Climbing → Shown
+shown_by rows s = one_pool (rows s.choice.n s.choice.r) s.choice.n s.choice.r s.indices
 
 -- the places of that row climb as those of the kind do
 abbrev pub Climbs : (ℕ → ℕ) → Climbing → Type 0

@@ -1,13 +1,13 @@
 // What combinations and combinations with replacement have in common: rows whose places climb.
-ghost use Rattle.std.specs.Prelude.{◌≡◌, ℕ, ◌+◌, ◌-◌, ◌<◌, ◌≤◌, ◌&&◌, nat_lt, nat_le, List, [], ◌∷◌, length, take, option_map, MatchOption, MatchResult, None, ◌≢◌, slice_index, false, is_none};
-ghost use Rattle.rows.specs.Calls.{unmakable, Unmade, other_rows};
-ghost use Rattle.rows.specs.Lawful.{AllAhead};
-ghost use Rattle.rows.specs.Climbs.{ClimbingRow};
-ghost use Rattle.rows.specs.Listed.{Listed};
-ghost use Rattle.combinations.specs.Standing.{Climbs, rows_ahead};
+ghost use Rattle.std.specs.Prelude.{◌≡◌, ℕ, ◌+◌, ◌-◌, ◌^◌, ◌<◌, ◌≤◌, ◌&&◌, nat_lt, nat_le, List, [], ◌∷◌, length, take, MatchOption, MatchResult, ◌≢◌, slice_index, false, is_none};
+ghost use Rattle.row_laws.specs.Calls.{Unmade, controller, leaving, other_rows};
+ghost use Rattle.row_laws.specs.Makings.{Made, one_pool_making};
+ghost use Rattle.row_laws.specs.Climbs.{ClimbingRow, ClimbStepped};
+ghost use Rattle.row_laws.specs.Listed.{Listed};
+ghost use Rattle.combinations.specs.Standing.{Climbs, shown_by};
 
 use crate::state::Climbing;
-use enumerators::Choice;
+use enumerators::{Choice, MOST_PLACES};
 use std::array::from_fn;
 use steps::Refusal;
 
@@ -49,9 +49,9 @@ fn has_no_row<K: Climb>(choice: Choice) -> bool
 }
 
 // Each place as low as it can be, where there is a row.
-fn first_row<K: Climb>(choice: Choice) -> Option<[u16; 64]>
+fn first_row<K: Climb>(choice: Choice) -> Option<[u16; MOST_PLACES]>
     ensures { MatchOption result ((0 < choice.r) × (choice.n ≤ K.above (choice.r - 1)))
-        (λ xs. (0 < choice.r → K.above (choice.r - 1) < choice.n) × (length xs ≡ 64) × ((k : ℕ) → k < 64 → slice_index xs k ≡ K.above k)) }
+        (λ xs. (0 < choice.r → K.above (choice.r - 1) < choice.n) × (length xs ≡ controller.places) × ((k : ℕ) → k < controller.places → slice_index xs k ≡ K.above k)) }
 {
     if has_no_row::<K>(choice) {
         return None;
@@ -60,36 +60,61 @@ fn first_row<K: Climb>(choice: Choice) -> Option<[u16; 64]>
 }
 
 // The last place that is not at its highest, if there is one: the places behind it still have to fit below `n`.
-fn pivot<K: Climb>(choice: Choice, indices: &[u16; 64]) -> Option<usize>
+fn pivot<K: Climb>(n: usize, r: usize, indices: &[u16]) -> Option<usize>
+    requires room { r ≤ length indices.now }
+    requires small { (n < 2 ^ 16) × (r < 2 ^ 16) }
     ensures { MatchOption result
-        ((k : ℕ) → k < choice.r → slice_index indices.now k + K.above (choice.r - 1) + 1 ≡ choice.n + K.above k)
-        (λ i. (i < choice.r) × (slice_index indices.now i + K.above (choice.r - 1) + 1 ≢ choice.n + K.above i)
-        × ((k : ℕ) → i < k → k < choice.r → slice_index indices.now k + K.above (choice.r - 1) + 1 ≡ choice.n + K.above k)) }
+        ((k : ℕ) → k < r → slice_index indices.now k + K.above (r - 1) + 1 ≡ n + K.above k)
+        (λ i. (i < r) × (slice_index indices.now i + K.above (r - 1) + 1 ≢ n + K.above i)
+        × ((k : ℕ) → i < k → k < r → slice_index indices.now k + K.above (r - 1) + 1 ≡ n + K.above k)) }
 {
-    (0..choice.r).rev().find(|&i| indices[i] as usize + K::lift(choice.r - 1) + 1
-        != choice.n + K::lift(i))
+    (0..r).rev().find(|&i| indices[i] as usize + K::lift(r - 1) + 1 != n + K::lift(i))
 }
 
 // Raises the place `i` by one, and sets each place to its right as low as it then can be.
-fn raise<K: Climb>(choice: Choice, indices: &mut [u16; 64], i: usize)
-    requires { (i < choice.r) × (slice_index indices.old i < 256) }
-    ensures long { length indices.new ≡ 64 }
+fn raise<K: Climb>(r: usize, indices: &mut [u16], i: usize)
+    requires place { (i < r) × (r ≤ length indices.old) }
+    requires small { slice_index indices.old i + r < 2 ^ 16 }
+    ensures long { length indices.new ≡ length indices.old }
     ensures front { (k : ℕ) → k < i → slice_index indices.new k ≡ slice_index indices.old k }
-    ensures low { (k : ℕ) → i ≤ k → k < choice.r → slice_index indices.new k + K.above i ≡ slice_index indices.old i + 1 + K.above k }
+    ensures low { (k : ℕ) → i ≤ k → k < r → slice_index indices.new k + K.above i ≡ slice_index indices.old i + 1 + K.above k }
 {
     let raised = indices[i] + 1;
-    for (behind, index) in indices[i..choice.r].iter_mut().enumerate() {
+    for (behind, index) in indices[i..r].iter_mut().enumerate() {
         *index = raised + (K::lift(i + behind) - K::lift(i)) as u16;
     }
+}
+
+// Goes on to the row after this one; `false` where there is none.
+fn step<K: Climb>(n: usize, r: usize, indices: &mut [u16]) -> bool
+    requires room { r ≤ length indices.old }
+    requires small { n + r < 2 ^ 16 }
+    requires climbs { ClimbingRow n r K.above indices.old }
+    ensures stepped { ClimbStepped n r K.above (K.lawful n r) indices.old indices.new result }
+    ensures long { length indices.new ≡ length indices.old }
+{
+    let Some(i) = pivot::<K>(n, r, indices) else {
+        return false;
+    };
+    raise::<K>(r, indices, i);
+    true
+}
+
+// The same over the large array.
+fn step_large<K: Climb>(choice: Choice, indices: &mut [u16; MOST_PLACES]) -> bool
+    requires { ClimbingRow choice.n choice.r K.above indices.old }
+    ensures stepped { ClimbStepped choice.n choice.r K.above (K.lawful choice.n choice.r) indices.old indices.new result }
+    ensures long { length indices.new ≡ controller.places }
+{
+    step::<K>(choice.n, choice.r, indices)
 }
 
 impl Climbing {
     // Stands at the first of the climbing rows of `r` places from a pool of `n` elements.
     pub(crate) fn new<K: Climb>(n: usize, r: usize) -> Result<Climbing, Refusal>
         ensures { MatchResult result
-            (λ s. (unmakable 256 64 (n ∷ []) r ≡ None) × (s.choice.n ≡ n) × (s.choice.r ≡ r) × Climbs K.above s
-            × AllAhead (K.lawful n r) (K.rows n r) (rows_ahead K.rows s))
-            (λ refusal. Unmade 256 64 (n ∷ []) r refusal) }
+            (λ s. Climbs K.above s × Made controller (K.lawful n r) (one_pool_making (K.rows n r) n r 0) (shown_by K.rows s))
+            (λ refusal. Unmade controller (n ∷ []) r refusal) }
     {
         let choice = Choice::new(n, r)?;
         Ok(Climbing {
@@ -108,7 +133,7 @@ impl Climbing {
     // The row at which it stands, if one is left.
     pub(crate) fn row<K: Climb>(&self) -> Option<&[u16]>
         requires { Climbs K.above self.now }
-        ensures { MatchOption result (rows_ahead K.rows self.now ≡ []) (λ row. rows_ahead K.rows self.now ≡ row.now ∷ other_rows (rows_ahead K.rows self.now)) }
+        ensures { MatchOption result ((shown_by K.rows self.now).ahead ≡ []) (λ row. (shown_by K.rows self.now).ahead ≡ row.now ∷ other_rows (shown_by K.rows self.now).ahead) }
     {
         let indices = self.indices.as_ref()?;
         Some(&indices[0..self.choice.r])
@@ -117,18 +142,16 @@ impl Climbing {
     // Leaves the row behind at which it stands.
     pub(crate) fn advance<K: Climb>(&mut self)
         requires { Climbs K.above self.old }
-        ensures rows { rows_ahead K.rows self.new ≡ other_rows (rows_ahead K.rows self.old) }
+        ensures shows { shown_by K.rows self.new ≡ leaving 1 (shown_by K.rows self.old) }
         ensures climbs { Climbs K.above self.new }
-        ensures chosen { self.new.choice ≡ self.old.choice }
-        ensures stood { is_none self.old.indices ≡ false → rows_ahead K.rows self.old ≢ [] }
+        ensures stood { is_none self.old.indices ≡ false → (shown_by K.rows self.old).ahead ≢ [] }
     {
         let choice = self.choice;
         let Some(indices) = &mut self.indices else {
             return;
         };
-        match pivot::<K>(choice, indices) {
-            Some(i) => raise::<K>(choice, indices, i),
-            None => self.indices = None,
+        if !step_large::<K>(choice, indices) {
+            self.indices = None;
         }
     }
 }

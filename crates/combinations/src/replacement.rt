@@ -1,16 +1,15 @@
-ghost use Rattle.std.specs.Prelude.{◌≡◌, [], ◌∷◌, length, take, option_map, None, MatchResult, refl};
-ghost use Rattle.rows.specs.Calls.{unmakable, Unmade, one_start};
-ghost use Rattle.rows.specs.Runs.{LifeLaw};
-ghost use Rattle.rows.specs.Lawful.{ReplacementRow, AllAhead};
-ghost use Rattle.rows.specs.Lists.{replacement_rows};
-ghost use Rattle.rows.specs.Climbs.{nothing_above};
-ghost use Rattle.rows.proofs.Families.{replacements_listed};
-ghost use Rattle.rows.proofs.Climbing.{replacement_climbs, replacement_taken, never_above};
-ghost use Rattle.rows.proofs.Limits.{few_small};
-ghost use Rattle.rows.proofs.Standing;
-ghost use Rattle.rows.proofs.Standing.{within_one, one_start_long};
-ghost use Rattle.enumerators.specs.Memories.{memories};
-ghost use Rattle.combinations.specs.Standing.{Climbs, rows_ahead};
+ghost use Rattle.std.specs.Prelude.{◌≡◌, [], ◌∷◌, MatchResult, refl};
+ghost use Rattle.row_laws.specs.Calls.{Unmade, controller};
+ghost use Rattle.row_laws.specs.Makings.{Made, replacement_making};
+ghost use Rattle.row_laws.specs.History.{Life};
+ghost use Rattle.row_laws.specs.Lawful.{ReplacementRow};
+ghost use Rattle.row_laws.specs.Lists.{replacement_rows};
+ghost use Rattle.row_laws.specs.Climbs.{nothing_above};
+ghost use Rattle.row_laws.proofs.Families.{replacements_listed};
+ghost use Rattle.row_laws.proofs.Climbing.{replacement_climbs, replacement_taken, never_above};
+ghost use Rattle.row_laws.proofs.Standing.{replacements_fit};
+ghost use Rattle.enumerators.specs.History.{memories};
+ghost use Rattle.combinations.specs.Standing.{Climbs, shown_by};
 
 use crate::climbing::Climb;
 use crate::state::Climbing;
@@ -42,8 +41,10 @@ impl Climb for Level {
     }
 }
 
-// The combinations of `r` from a pool of `n` elements, each of which may come again: the rows of `r` places below `n`
-// that never fall.
+/// The combinations of `r` from a pool of `n` elements, each of which may come again: the rows of `r` places below `n`
+/// that never fall.
+///
+/// `replacement 2 2` gives `0 0`, `0 1`, `1 1`; `replacement 0 1` none.
 #[derive(Drop)]
 pub struct CombinationsWithReplacement {
     climbing: Climbing,
@@ -51,25 +52,22 @@ pub struct CombinationsWithReplacement {
 }
 
 impl CombinationsWithReplacement {
-    // A pool above 256 elements is refused, and then a row above 64 places.
+    /// Refused by 1 where the pool has more than 256 elements, and then by 2 where a row has more than 64 places.
     pub fn new(n: usize, r: usize) -> Result<CombinationsWithReplacement, Refusal>
         ensures { MatchResult result
-            (λ e. (unmakable 256 64 (n ∷ []) r ≡ None)
-            × (⟦<CombinationsWithReplacement as Enumerator>⟧.size e ≡ n) × (⟦<CombinationsWithReplacement as Enumerator>⟧.width e ≡ r) × (⟦<CombinationsWithReplacement as Enumerator>⟧.starts e ≡ one_start 64)
-            × AllAhead (ReplacementRow n r) (replacement_rows n r) (⟦<CombinationsWithReplacement as Enumerator>⟧.ahead e))
-            (λ refusal. Unmade 256 64 (n ∷ []) r refusal) }
+            (λ e. Made controller (ReplacementRow n r) (replacement_making n r 0) (⟦<CombinationsWithReplacement as Enumerator>⟧.shown e))
+            (λ refusal. Unmade controller (n ∷ []) r refusal) }
     {
         Ok(CombinationsWithReplacement {
             climbing: Climbing::new::<Level>(n, r)?,
         })
     }
 
-    // Makes the enumerator, and then all the calls on it: a history since the making.
+    /// Makes the enumerator, and then all the calls on it: a history since the making. Refused as `new` is, with no call made.
     pub fn run_calls<T: Copy>(n: usize, r: usize, calls: &mut [Call<T>]) -> Result<usize, Refusal>
         ensures { MatchResult result
-            (λ count. (unmakable 256 64 (n ∷ []) r ≡ None) × (count ≡ length calls.old)
-            × LifeLaw (ReplacementRow n r) n r (one_start 64) (memories calls.old) (memories calls.new))
-            (λ refusal. Unmade 256 64 (n ∷ []) r refusal × (calls.new ≡ calls.old)) }
+            (λ count. Life controller (ReplacementRow n r) (replacement_making n r 0) (memories calls.old) (memories calls.new) count)
+            (λ refusal. Unmade controller (n ∷ []) r refusal × (calls.new ≡ calls.old)) }
     {
         let mut enumerator = CombinationsWithReplacement::new(n, r)?;
         Ok(run(&mut enumerator, calls))
@@ -77,29 +75,7 @@ impl CombinationsWithReplacement {
 }
 
 impl Enumerator for CombinationsWithReplacement {
-    ghost ahead = { λ s. rows_ahead replacement_rows s.climbing };
-
-    ghost size = { λ s. s.climbing.choice.n };
-
-    ghost width = { λ s. s.climbing.choice.r };
-
-    ghost starts = { λ _. one_start 64 };
-
-    ghost uniform = { λ s.
-        let n = s.climbing.choice.n in
-        let r = s.climbing.choice.r in
-        Standing.uniform (ReplacementRow n r) r (replacement_rows n r) (replacements_listed n r) (option_map (take r) s.climbing.indices) };
-
-    ghost within = { λ s.
-        let n = s.climbing.choice.n in
-        let r = s.climbing.choice.r in
-        within_one (ReplacementRow n r) r (replacement_rows n r) (replacements_listed n r) 64 n s.climbing.choice.short (λ row law. (replacement_climbs n r row law).below) (option_map (take r) s.climbing.indices) };
-
-    ghost reaching = { λ s. one_start_long 64 s.climbing.choice.r s.climbing.choice.short };
-
-    ghost short = { λ s. s.climbing.choice.short };
-
-    ghost small = { λ s. few_small s.climbing.choice.n s.climbing.choice.few };
+    ghost shown = { λ s. shown_by replacement_rows s.climbing };
 
     fn pool_len(&self) -> usize {
         self.climbing.choice.n
@@ -109,9 +85,8 @@ impl Enumerator for CombinationsWithReplacement {
         self.climbing.choice.r
     }
 
-    #[tactic(auto, unfolding(rows::specs::Calls::one_start))]
-    fn pool_starts(&self) -> [u16; 64] {
-        [0; 64]
+    fn pool_start(&self, _place: usize) -> usize {
+        0
     }
 
     fn row(&self) -> Option<&[u16]> {
@@ -123,4 +98,6 @@ impl Enumerator for CombinationsWithReplacement {
             self.climbing.advance::<Level>();
         }
     }
+
+    ghost fits = { λ s. replacements_fit s.climbing.choice.n s.climbing.choice.r s.climbing.choice.few s.climbing.choice.short s.climbing.indices };
 }

@@ -1,1 +1,1 @@
-pub mod Memories
+pub mod History

@@ -1,8 +1,7 @@
-ghost use Rattle.std.specs.Prelude.{◌≡◌, ℕ, ◌<◌, ◌≤◌, List, [], ◌∷◌, length, MatchOption};
-ghost use Rattle.std.specs.List.{AllByRecursion};
-ghost use Rattle.rows.specs.Calls.{earned, earned_number, number_told, allowed, answered, if_given, UnlessGiven, first_row, other_rows, at_front, positions, picked};
+ghost use Rattle.std.specs.Prelude.{◌≡◌, ◌<◌, [], ◌∷◌, length, MatchOption};
+ghost use Rattle.row_laws.specs.Calls.{Shown, Fitting, controller, leaving, next_elements, refusal_of_call, refusal_number_of_call, number_of_refusal, allowed, answer_of_call, if_given, UnlessGiven, first_row, other_rows, at_front};
 
-use crate::copy::{copy, positions_of};
+use crate::copy::copy;
 use steps::{Answer, Refusal};
 
 // Refuses what a call is lent, by its lengths: first the pool is looked at, then the buffers.
@@ -13,8 +12,8 @@ fn check_lent(
     places: usize,
     elements: usize,
 ) -> Result<(), Refusal>
-    ensures answer { result ≡ allowed (earned size width pool places elements) }
-    ensures number { number_told result ≡ earned_number size width pool places elements }
+    ensures answer { result ≡ allowed (refusal_of_call size width pool places elements) }
+    ensures number { number_of_refusal result ≡ refusal_number_of_call size width pool places elements }
 {
     if pool != size {
         return Err(Refusal::OtherPool);
@@ -25,58 +24,63 @@ fn check_lent(
     Ok(())
 }
 
-// An enumerator means the list of rows ahead. Each call of `next` that is not refused gives the first of
-// them and leaves the others; with none ahead it says end.
+/// An enumerator means the list of rows ahead. Each call of `next` that is not refused gives the first of
+/// them and leaves the others; with none ahead it says end.
+///
+/// Whoever adds a kind of enumerator writes `pool_len`, `row_len`, `pool_start`, `row` and `advance`, and proves that what
+/// it shows fits; `next` is written once, here.
 pub trait Enumerator {
-    // the rows ahead, in their order
-    ghost ahead: { Self → List (List ℕ) };
+    // all that it shows: the rows ahead, and what a call has to lend
+    ghost shown: { Self → Shown };
 
-    // how long the lent pool is, by the making; for a product the list of all its pools
-    ghost size: { Self → ℕ };
-
-    // how many places a row has
-    ghost width: { Self → ℕ };
-
-    // where in the lent pool the elements of each place begin
-    ghost starts: { Self → List ℕ };
-
+    /// How many elements the lent pool has to have; of a product, the pools together.
     fn pool_len(&self) -> usize
-        ensures { result ≡ size self.now };
+        ensures { result ≡ (shown self.now).size };
 
+    /// How many places a row has.
     fn row_len(&self) -> usize
-        ensures { result ≡ width self.now };
+        ensures { result ≡ (shown self.now).width };
 
-    // Each kind says it: a body given here would be proved for every kind, also for one of several pools.
-    fn pool_starts(&self) -> [u16; 64]
-        ensures { result ≡ starts self.now };
+    /// Where in the lent pool the elements of a place of a row begin: at 0 where there is one pool.
+    // Each kind says it, since a body given here would be proved for every kind, also for one of several pools.
+    fn pool_start(&self, place: usize) -> usize
+        ensures { place < (shown self.now).width → result ≡ (shown self.now).starts place };
 
-    // The first row ahead, if there is one.
+    /// The first row ahead, if there is one: `combinations 3 2` shows `0 1` when it is made.
     fn row(&self) -> Option<&[u16]>
-        ensures { MatchOption result (ahead self.now ≡ []) (λ row. ahead self.now ≡ row.now ∷ other_rows (ahead self.now)) };
+        ensures { MatchOption result
+            ((shown self.now).ahead ≡ [])
+            (λ row. (shown self.now).ahead ≡ row.now ∷ other_rows (shown self.now).ahead) };
 
-    // Leaves the first row ahead behind.
+    /// Leaves the first row ahead behind; changes nothing where there is none.
     fn advance(&mut self)
-        ensures rows { ahead self.new ≡ other_rows (ahead self.old) }
-        ensures sized { size self.new ≡ size self.old }
-        ensures wide { width self.new ≡ width self.old }
-        ensures starting { starts self.new ≡ starts self.old }
-        ensures rests { ahead self.old ≡ [] → self.new ≡ self.old };
+        ensures shows { shown self.new ≡ leaving 1 (shown self.old) }
+        ensures rests { (shown self.old).ahead ≡ [] → self.new ≡ self.old };
 
-    // Gives the first row ahead: writes its places, and the pool's elements that lie there, to the front of the buffers.
-    fn next<T: Copy>(
+    /// Gives the first row ahead: writes its places, and the elements of the lent pool that lie there, to the front of the
+    /// buffers, and leaves the rest of them as it was. Says end where no row is left, and writes nothing.
+    ///
+    /// `combinations 3 2`, lent the pool `a b c`, writes `0 1` and `a b`, then `0 2` and `a c`, then `1 2` and `b c`, and then
+    /// says end. Refused by 3 where the pool is not as long as at the making, then by 4 where a buffer is shorter than a row,
+    /// also where no row is left; a refused call changes nothing.
+    final fn next<T: Copy>(
         &mut self,
         pool: &[T],
         places: &mut [u16],
         elements: &mut [T],
     ) -> Result<Answer<()>, Refusal>
-        ensures answer { result ≡ answered (earned (size self.old) (width self.old) (length pool.now) (length places.old) (length elements.old)) (ahead self.old) }
-        ensures number { number_told result ≡ earned_number (size self.old) (width self.old) (length pool.now) (length places.old) (length elements.old) }
-        ensures rows { ahead self.new ≡ if_given result (other_rows (ahead self.old)) (ahead self.old) }
-        ensures places { places.new ≡ if_given result (at_front (first_row (ahead self.old)) places.old) places.old }
-        ensures elements { elements.new ≡ if_given result (at_front (picked pool.now (positions (starts self.old) (first_row (ahead self.old)))) elements.old) elements.old }
-        ensures sized { size self.new ≡ size self.old }
-        ensures wide { width self.new ≡ width self.old }
-        ensures starting { starts self.new ≡ starts self.old }
+        ensures answer { result ≡ answer_of_call
+            (refusal_of_call (shown self.old).size (shown self.old).width
+            (length pool.now) (length places.old) (length elements.old))
+            (shown self.old).ahead }
+        ensures number { number_of_refusal result
+            ≡ refusal_number_of_call (shown self.old).size (shown self.old).width
+            (length pool.now) (length places.old) (length elements.old) }
+        ensures places { places.new
+            ≡ if_given result (at_front (first_row (shown self.old).ahead) places.old) places.old }
+        ensures elements { elements.new
+            ≡ if_given result (at_front (next_elements (shown self.old) pool.now) elements.old) elements.old }
+        ensures shows { shown self.new ≡ if_given result (leaving 1 (shown self.old)) (shown self.old) }
         ensures rests { UnlessGiven result (self.new ≡ self.old) }
     {
         let width = self.row_len();
@@ -90,24 +94,12 @@ pub trait Enumerator {
         let Some(row) = self.row() else {
             return Ok(Answer::End);
         };
-        let lying = positions_of(self.pool_starts(), row);
-        copy(pool, &lying[0..width], elements);
+        copy(self, pool, row, elements);
         places[0..width].copy_from_slice(row);
         self.advance();
         Ok(Answer::Item(()))
     }
 
-    // each row ahead has `width` places
-    ghost uniform: { (s : Self) → AllByRecursion (λ row. length row ≡ width s) (ahead s) };
-
-    // and its elements lie in the lent pool
-    ghost within: { (s : Self) → AllByRecursion (λ row. AllByRecursion (λ p. p < size s) (positions (starts s) row)) (ahead s) };
-
-    // each place of a row has a start
-    ghost reaching: { (s : Self) → width s ≤ length (starts s) };
-
-    // a row fits the limit of 64 places, and a position in the pool fits 16 bits
-    ghost short: { (s : Self) → width s ≤ 64 };
-
-    ghost small: { (s : Self) → size s ≤ 16384 };
+    // each row ahead has `width` places, its elements lie in the lent pool, and both are within the limits
+    ghost fits: { (s : Self) → Fitting controller (shown s) };
 }

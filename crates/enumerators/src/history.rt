@@ -1,12 +1,12 @@
 // Histories of next calls.
 ghost use Rattle.std.specs.Prelude.{◌≡◌, length};
-ghost use Rattle.rows.specs.Runs.{Linked, Led, EveryHistory};
-ghost use Rattle.enumerators.specs.Memories.{memory, memories};
+ghost use Rattle.row_laws.specs.History.{Transition, TraceLaw, EveryHistory, EveryMixedHistory};
+ghost use Rattle.enumerators.specs.History.{memory, memories};
 
 use crate::enumerator::Enumerator;
 use steps::{Answer, Refusal};
 
-// A call of `next` with a pool and buffers of its own, right or wrong; once it was made, with what it answered.
+/// A call of `next` with a pool and buffers of its own, right or wrong; once it was made, with what it answered.
 #[derive(Drop)]
 pub struct Call<T> {
     pub pool: Vec<T>,
@@ -17,7 +17,7 @@ pub struct Call<T> {
 
 // Makes one call, with what it is lent, and keeps its answer.
 fn make<E: Enumerator, T: Copy>(enumerator: &mut E, call: &mut Call<T>)
-    ensures { Linked E.Enumerator.ahead E.Enumerator.size E.Enumerator.width E.Enumerator.starts enumerator.old (memory call.old) (memory call.new) enumerator.new }
+    ensures { Transition E.shown enumerator.old (memory call.old) (memory call.new) enumerator.new }
 {
     let answer = enumerator.next(
         call.pool.as_slice(),
@@ -27,11 +27,13 @@ fn make<E: Enumerator, T: Copy>(enumerator: &mut E, call: &mut Call<T>)
     call.answer = Some(answer);
 }
 
-// Makes all the calls, one after another, and tells how many they were. Each kind makes itself and then calls this: one function
-// over any making would have to be told its refusals and its law, and would save a line.
+/// Makes all the calls, one after another, and tells how many they were.
+///
+/// Of the calls that are not refused the k-th gives the k-th row ahead, or says end where there are fewer; a refused call
+/// answers its number, and neither writes nor changes anything.
 pub fn run<E: Enumerator, T: Copy>(enumerator: &mut E, calls: &mut [Call<T>]) -> usize
     ensures count { result ≡ length calls.old }
-    ensures law { Led E.Enumerator.ahead E.Enumerator.size E.Enumerator.width E.Enumerator.starts enumerator.old (memories calls.old) (memories calls.new) enumerator.new }
+    ensures law { TraceLaw E.shown enumerator.old (memories calls.old) (memories calls.new) enumerator.new }
 {
     for call in calls.iter_mut() {
         make(enumerator, call);
@@ -39,11 +41,19 @@ pub fn run<E: Enumerator, T: Copy>(enumerator: &mut E, calls: &mut [Call<T>]) ->
     calls.len()
 }
 
-// Whatever calls lead from one state of an enumerator to another, each by the contract of `next`: the law of
-// histories holds of them.
+/// Whatever calls lead from one state of an enumerator to another, each by the contract of `next`: the law of
+/// histories holds of them.
 pub fn every_history<E: Enumerator, T: Copy>() -> u8
     ensures result { result ≡ 0 }
-    ensures law { EveryHistory E.Enumerator.ahead E.Enumerator.size E.Enumerator.width E.Enumerator.starts T }
+    ensures law { EveryHistory E.shown T }
+{
+    0
+}
+
+/// The same where each call is of a kind of element of its own: numbers, then blocks, then numbers again.
+pub fn every_mixed_history<E: Enumerator, T: Copy>() -> u8
+    ensures result { result ≡ 0 }
+    ensures law { EveryMixedHistory E.shown T }
 {
     0
 }

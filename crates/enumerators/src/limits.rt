@@ -1,27 +1,29 @@
-// What a making accepts.
-ghost use Rattle.std.specs.Prelude.{◌≡◌, ◌≤◌, [], ◌∷◌, MatchResult};
-ghost use Rattle.rows.specs.Calls.{some_above, unmakable, unmakable_number, Unmade, number_told, allowed};
+// What a making accepts. The numbers of the limits stand here and in the types of the large states alone.
+ghost use Rattle.std.specs.Prelude.{◌≡◌, ◌≤◌, [], ◌∷◌, None, MatchResult};
+ghost use Rattle.row_laws.specs.Calls.{some_above, controller, refusal_of_making, refusal_number_of_making, Unmade, MakingLaw, number_of_refusal, allowed};
 
 use steps::Refusal;
 
-// The most elements of a pool.
+/// The most elements of a pool.
 pub const MOST_ELEMENTS: usize = 256;
 
-// The most pools, and the most places of a row.
+/// The most pools, and the most places of a row.
 pub const MOST_PLACES: usize = 64;
 
 // Whether one of the pools has more elements than a pool may have.
 fn has_long_pool(lengths: &[usize]) -> bool
-    ensures { result ≡ some_above 256 lengths.now }
+    ensures { result ≡ some_above controller.elements lengths.now }
 {
     lengths.iter().any(|length| *length > MOST_ELEMENTS)
 }
 
-// Refuses pools of these lengths, or rows of so many places, where they pass the limits: first each pool is
-// looked at, then their number and the row.
+/// Refuses pools of these lengths, or rows of so many places, where they pass the limits: by 1 where a pool is too long,
+/// each of them looked at; then by 2 where there are too many pools or a row has too many places.
+#[tactic(auto, using(row_laws::proofs::Limits::making_law))]
 pub fn check_limits(lengths: &[usize], width: usize) -> Result<(), Refusal>
-    ensures answer { result ≡ allowed (unmakable 256 64 lengths.now width) }
-    ensures number { number_told result ≡ unmakable_number 256 64 lengths.now width }
+    ensures answer { result ≡ allowed (refusal_of_making controller lengths.now width) }
+    ensures number { number_of_refusal result ≡ refusal_number_of_making controller lengths.now width }
+    ensures law { MakingLaw controller lengths.now width result }
 {
     if has_long_pool(lengths) {
         return Err(Refusal::PoolTooLong);
@@ -32,21 +34,21 @@ pub fn check_limits(lengths: &[usize], width: usize) -> Result<(), Refusal>
     Ok(())
 }
 
-// A pool of `n` elements and rows of `r` places, where a making accepts them.
+/// A pool of `n` elements and rows of `r` places, where a making accepts them.
 #[derive(Clone, Copy)]
 pub struct Choice {
     pub n: usize,
     pub r: usize,
-    ghost few: { n ≤ 256 },
-    ghost short: { r ≤ 64 },
+    ghost few: { n ≤ controller.elements },
+    ghost short: { r ≤ controller.places },
 }
 
 impl Choice {
-    // Refused where the pool or the row passes the limits.
+    /// Refused by 1 where the pool passes the limit, and then by 2 where the row does.
     pub fn new(n: usize, r: usize) -> Result<Choice, Refusal>
         ensures { MatchResult result
-            (λ choice. (unmakable 256 64 (n ∷ []) r ≡ None) × (choice.n ≡ n) × (choice.r ≡ r))
-            (λ refusal. Unmade 256 64 (n ∷ []) r refusal) }
+            (λ choice. (refusal_of_making controller (n ∷ []) r ≡ None) × (choice.n ≡ n) × (choice.r ≡ r))
+            (λ refusal. Unmade controller (n ∷ []) r refusal) }
     {
         check_limits(&[n], r)?;
         Ok(Choice { n, r })

@@ -1,9 +1,10 @@
 -- compress: the data whose selectors a predicate accepts.
-use Rattle.std.specs.Prelude.{◌≡◌, ℕ, zero, suc, ◌+◌, Bool, true, false, cond, List, [], ◌∷◌, map, length, drop, Some, Ok, Err, Result}
+use Rattle.std.specs.Prelude.{◌≡◌, ℕ, zero, suc, ◌+◌, Bool, true, false, cond, ◌⊎◌, List, [], ◌∷◌, ◌++◌, map, length, drop, Some, Ok, Err, Result}
 use Rattle.steps.specs.Steps.{Step}
 use Rattle.std.specs.List.{slice_get}
 use Rattle.steps.specs.declared.fault.Fault.{Fault}
 use Rattle.laws.specs.Items.{Decided}
+use Rattle.laws.specs.Run.{Call, ItemsDrawn}
 
 -- a selector that is denied loses its datum, and so does a predicate's fault, which takes the pair's place
 abbrev pub keep_on : {A : Type 0} → Result Bool Fault → A → List (Step A) → List (Step A)
@@ -59,6 +60,22 @@ compress_end (Ok a ∷ ds) (s ∷ ts) = compress_end ds ts
 abbrev pub compress_ends : {A B : Type 0} → Bool → List (Step A) → List (Step B) → CompressLeft A B
 compress_ends ended ds ts = cond ended (record { data_left = ds; selectors_left = ts }) (compress_end ds ts)
 
+-- the calls of a run, with what each leaves of the two sources
+abbrev pub keep_call : {A B : Type 0} → Result Bool Fault → A → List (Step A) → List (Step B) → List (Call A (CompressLeft A B)) → List (Call A (CompressLeft A B))
+keep_call (Ok true) a ds ts more = record { step = Ok a; left = record { data_left = ds; selectors_left = ts } } ∷ more
+keep_call (Ok false) a ds ts more = more
+keep_call (Err f) a ds ts more = record { step = Err f; left = record { data_left = ds; selectors_left = ts } } ∷ more
+
+abbrev pub compressed_run : {A B : Type 0} → (B → Result Bool Fault) → List (Step A) → List (Step B) → List (Call A (CompressLeft A B))
+compressed_run p [] ts = []
+compressed_run p (Err f ∷ ds) ts = record { step = Err f; left = record { data_left = ds; selectors_left = ts } } ∷ compressed_run p ds ts
+compressed_run p (Ok a ∷ ds) [] = []
+compressed_run p (Ok a ∷ ds) (Err f ∷ ts) = record { step = Err f; left = record { data_left = ds; selectors_left = ts } } ∷ compressed_run p ds ts
+compressed_run p (Ok a ∷ ds) (Ok b ∷ ts) = keep_call (p b) a ds ts (compressed_run p ds ts)
+
+abbrev pub compress_run : {A B : Type 0} → (B → Result Bool Fault) → Bool → List (Step A) → List (Step B) → List (Call A (CompressLeft A B))
+compress_run p ended ds ts = cond ended [] (compressed_run p ds ts)
+
 -- how many of the first k selectors are accepted
 abbrev pub one_if : Result Bool Fault → ℕ
 one_if (Ok true) = 1
@@ -81,3 +98,14 @@ pub record KeepsAccepted {A B : Type 0} (p : B → Result Bool Fault) (ds : List
 abbrev pub CompressDraws : {A B : Type 0} → List (Step A) → List (Step B) → List (Step A) → List (Step B) → Type 0
 CompressDraws {A} {B} ds ts ds' ts' = (xs : List A) (bs : List B) → ds ≡ map Ok xs → ts ≡ map Ok bs →
     (ds' ≡ map Ok (drop (length bs + 1) xs)) × (ts' ≡ map Ok (drop (length xs) bs))
+
+-- With and without faults: whenever it gives a step, as many data are drawn as steps of the selectors. By its end they are as many
+-- where the data have ended, and one datum more where the selectors have.
+pub record DatumForEach {A B : Type 0} (more : ℕ) (ds : List (Step A)) (ts : List (Step B)) (left : CompressLeft A B) : Type 0 where
+  pub asked : List (Step B)
+  pub selectors : ts ≡ asked ++ left.selectors_left
+  pub items : ItemsDrawn (more + length asked) ds left.data_left
+
+pub record EachDatum {A B : Type 0} (ds : List (Step A)) (ts : List (Step B)) (run : List (Call A (CompressLeft A B))) (end : CompressLeft A B) : Type 0 where
+  pub on_the_way : (before after : List (Call A (CompressLeft A B))) (c : Call A (CompressLeft A B)) → run ≡ before ++ c ∷ after → DatumForEach 0 ds ts c.left
+  pub by_the_end : (DatumForEach 0 ds ts end × (end.data_left ≡ [])) ⊎ (DatumForEach 1 ds ts end × (end.selectors_left ≡ []))

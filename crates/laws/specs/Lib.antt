@@ -1,4 +1,5 @@
 pub mod Items
+pub mod Run
 pub mod TakeWhile
 pub mod DropWhile
 pub mod Chain
@@ -7,3 +8,7 @@ pub mod Compress
 pub mod Accumulate
 pub mod Pairwise
 pub mod ZipLongest
+pub mod Tee
+pub mod Runs
+pub mod GroupBy
+pub mod Faults

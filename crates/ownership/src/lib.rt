@@ -1,4 +1,4 @@
-// How sources, adapters and enumerators are owned. Every function here is accepted as it stands; the edits listed in
+// How sources, adapters, enumerators and tees are owned. Every function here is accepted as it stands; the edits listed in
 // the folder ownership/ turn one line each, and the compiler has to refuse each of them. Every type has functions of its own and not
 // one generic one, since what has to be refused is a copy or a second use of that type.
 
@@ -6,11 +6,14 @@
 
 use adapters::{Accumulate, Chain, Compress, DropWhile, Islice, Pairwise, TakeWhile, ZipLongest};
 use combinations::{Combinations, CombinationsWithReplacement};
+use enumerators::{Enumerator, list};
+use groups::{GroupBy, Grouper};
 use permutations::Permutations;
 use products::Product;
-use rules::{Below, Sum};
+use rules::{Below, Itself, Sum};
 use sources::{List, Range, Records, Script};
-use steps::{Refusal, Source};
+use steps::{Answer, CallError, Refusal, Source};
+use tee::Tee;
 
 pub fn over_takewhile(mut from_takewhile: Range) -> TakeWhile<Range, Below> {
     let mut over = TakeWhile::new(Below { limit: 5 }, from_takewhile);
@@ -57,6 +60,18 @@ pub fn over_zip_longest(mut zip_left: Range, mut zip_right: Range) -> ZipLongest
     over
 }
 
+pub fn over_groupby(mut from_groupby: Range) -> GroupBy<Range, Itself> {
+    let mut over = GroupBy::new(from_groupby, Itself);
+    let _ = over.group(); // groupby
+    over
+}
+
+pub fn over_grouper(mut lent_groups: GroupBy<Range, Itself>) -> GroupBy<Range, Itself> {
+    let mut over = Grouper::new(&mut lent_groups, 1);
+    let _ = over.next(); // grouper
+    lent_groups
+}
+
 pub fn over_islice(mut from_islice: Range) -> Result<Islice<Range>, (Refusal, Range)> {
     let mut over = Islice::new(from_islice, &[Some(3)])?;
     let _ = over.next(); // islice
@@ -67,6 +82,18 @@ pub fn lent(source: &mut Range) {
     let mut over = TakeWhile::new(Below { limit: 5 }, &mut *source);
     let _ = over.next(); // lent
     let _ = source.next();
+}
+
+pub fn over_tee(mut from_tee: Range, store: &mut [u64]) -> Result<Answer<u64>, CallError> {
+    let mut over = Tee::new(from_tee, None, store.len())?;
+    over.step(0, store) // tee
+}
+
+pub fn lent_to_tee(lent_range: &mut Range, store: &mut [u64]) -> Result<Answer<u64>, CallError> {
+    let mut over = Tee::new(&mut *lent_range, None, store.len())?;
+    let first = over.step(0, store); // lent to a tee
+    let _ = lent_range.next();
+    first
 }
 
 pub fn keep_list<'a>(one_list: List<'a, u64>) -> List<'a, u64> {
@@ -109,6 +136,16 @@ pub fn keep_pairwise(one_pairwise: Pairwise<Range>) -> Pairwise<Range> {
     kept
 }
 
+pub fn keep_groupby(one_groupby: GroupBy<Range, Itself>) -> GroupBy<Range, Itself> {
+    let kept = one_groupby;
+    kept
+}
+
+pub fn keep_grouper<'a>(one_grouper: Grouper<'a, Range, Itself>) -> Grouper<'a, Range, Itself> {
+    let kept = one_grouper;
+    kept
+}
+
 pub fn keep_chain(one_chain: Chain<Range, Range>) -> Chain<Range, Range> {
     let kept = one_chain;
     kept
@@ -126,6 +163,11 @@ pub fn keep_compress(one_compress: Compress<Range, Range, Below>) -> Compress<Ra
 
 pub fn keep_zip_longest(one_zip_longest: ZipLongest<Range, Range>) -> ZipLongest<Range, Range> {
     let kept = one_zip_longest;
+    kept
+}
+
+pub fn keep_tee(one_tee: Tee<Range>) -> Tee<Range> {
+    let kept = one_tee;
     kept
 }
 
@@ -149,4 +191,37 @@ pub fn keep_replacement(
 pub fn keep_permutations(one_permutations: Permutations) -> Permutations {
     let kept = one_permutations;
     kept
+}
+
+pub fn list_product(mut listed_product: Product, buffer: &mut [u8]) -> Result<usize, Refusal> {
+    listed_product.advance();
+    let count = list(listed_product, buffer)?; // product
+    Ok(count)
+}
+
+pub fn list_combinations(
+    mut listed_combinations: Combinations,
+    buffer: &mut [u8],
+) -> Result<usize, Refusal> {
+    listed_combinations.advance();
+    let count = list(listed_combinations, buffer)?; // combinations
+    Ok(count)
+}
+
+pub fn list_replacement(
+    mut listed_replacement: CombinationsWithReplacement,
+    buffer: &mut [u8],
+) -> Result<usize, Refusal> {
+    listed_replacement.advance();
+    let count = list(listed_replacement, buffer)?; // with replacement
+    Ok(count)
+}
+
+pub fn list_permutations(
+    mut listed_permutations: Permutations,
+    buffer: &mut [u8],
+) -> Result<usize, Refusal> {
+    listed_permutations.advance();
+    let count = list(listed_permutations, buffer)?; // permutations
+    Ok(count)
 }

@@ -2,7 +2,8 @@
 
 #![tactic(auto)]
 
+mod cycles;
 mod permutations;
-mod turning;
+mod state;
 
 pub use permutations::Permutations;

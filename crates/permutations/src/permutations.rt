@@ -1,56 +1,57 @@
-ghost use Rattle.std.specs.Prelude.{◌≡◌, ◌≤◌, [], ◌∷◌, length, take, option_map, MatchResult};
+ghost use Rattle.std.specs.Prelude.{◌≡◌, ◌≤◌, [], ◌∷◌, option_map, MatchResult};
 ghost use Rattle.std.specs.Option.{ForSome};
-ghost use Rattle.rows.specs.Calls.{unmakable, Unmade, one_start};
-ghost use Rattle.rows.specs.Runs.{LifeLaw};
-ghost use Rattle.enumerators.specs.Memories.{memories};
-ghost use Rattle.rows.specs.Lawful.{PermutationRow, AllAhead};
-ghost use Rattle.rows.specs.Lists.{permutation_rows, ahead_from};
-ghost use Rattle.rows.specs.Cycles.{Cycling, row_length};
-ghost use Rattle.rows.proofs.Families.{permutations_listed};
-ghost use Rattle.rows.proofs.Limits.{few_small};
-ghost use Rattle.rows.proofs.Standing;
-ghost use Rattle.rows.proofs.Standing.{within_one, one_start_long};
+ghost use Rattle.row_laws.specs.Calls.{Unmade, controller};
+ghost use Rattle.row_laws.specs.Makings.{Made, permutation_making};
+ghost use Rattle.row_laws.specs.History.{Life};
+ghost use Rattle.row_laws.specs.Standing.{one_pool};
+ghost use Rattle.row_laws.specs.Lawful.{PermutationRow};
+ghost use Rattle.row_laws.specs.Lists.{permutation_rows};
+ghost use Rattle.row_laws.specs.Cycles.{Cycling, row_length};
+ghost use Rattle.row_laws.proofs.Standing.{permutations_fit};
+ghost use Rattle.enumerators.specs.History.{memories};
 
-use crate::turning::Turning;
+use crate::cycles::{Cycles, step};
+use crate::state::Standing;
 use enumerators::{Call, Choice, Enumerator, run};
 use steps::Refusal;
 
-// The rows of `r` places below `n` that all differ. The row that `next` gives stands in `turning`.
+/// The permutations of `r` from a pool of `n` elements: the rows of `r` places below `n` that all differ. An absent `r` is `n`.
+///
+/// `permutations 3 2` gives `0 1`, `0 2`, `1 0`, `1 2`, `2 0`, `2 1`; `permutations 0 0` the empty row.
 #[derive(Drop)]
 pub struct Permutations {
-    choice: Choice,
-    turning: Option<Turning>,
-    ghost fitting: { ForSome turning (λ _. choice.r ≤ choice.n) },
-    ghost cycling: { ForSome turning (λ t. Cycling choice.n choice.r t.indices t.cycles) },
+    standing: Standing,
+    ghost fitting: { ForSome standing.cycles (λ _. standing.choice.r ≤ standing.choice.n) },
+    ghost cycling: { ForSome standing.cycles (λ c. Cycling standing.choice.n standing.choice.r c.indices c.cycles) },
 }
 
 impl Permutations {
-    // The permutations of `r` from a pool of `n` elements, of all where `r` is absent.
+    /// Refused by 1 where the pool has more than 256 elements, and then by 2 where a row has more than 64 places.
     pub fn new(n: usize, r: Option<usize>) -> Result<Permutations, Refusal>
         ensures { MatchResult result
-            (λ e. (unmakable 256 64 (n ∷ []) (row_length n r) ≡ None)
-            × (⟦<Permutations as Enumerator>⟧.size e ≡ n) × (⟦<Permutations as Enumerator>⟧.width e ≡ row_length n r)
-            × (⟦<Permutations as Enumerator>⟧.starts e ≡ one_start 64)
-            × AllAhead (PermutationRow n (row_length n r)) (permutation_rows n (row_length n r)) (⟦<Permutations as Enumerator>⟧.ahead e))
-            (λ refusal. Unmade 256 64 (n ∷ []) (row_length n r) refusal) }
+            (λ e. Made controller (PermutationRow n (row_length n r)) (permutation_making n (row_length n r) 0)
+            (⟦<Permutations as Enumerator>⟧.shown e))
+            (λ refusal. Unmade controller (n ∷ []) (row_length n r) refusal) }
     {
         let choice = Choice::new(n, r.unwrap_or(n))?;
         Ok(Permutations {
-            choice,
-            turning: Turning::first(choice),
+            standing: Standing {
+                choice,
+                cycles: Cycles::first(choice),
+            },
         })
     }
 
-    // Makes the permutations, and then all the calls on it: a history since the making.
+    /// Makes the permutations, and then all the calls on them: a history since the making. Refused as `new` is, with no call made.
     pub fn run_calls<T: Copy>(
         n: usize,
         r: Option<usize>,
         calls: &mut [Call<T>],
     ) -> Result<usize, Refusal>
         ensures { MatchResult result
-            (λ count. (unmakable 256 64 (n ∷ []) (row_length n r) ≡ None) × (count ≡ length calls.old)
-            × LifeLaw (PermutationRow n (row_length n r)) n (row_length n r) (one_start 64) (memories calls.old) (memories calls.new))
-            (λ refusal. Unmade 256 64 (n ∷ []) (row_length n r) refusal × (calls.new ≡ calls.old)) }
+            (λ count. Life controller (PermutationRow n (row_length n r)) (permutation_making n (row_length n r) 0)
+            (memories calls.old) (memories calls.new) count)
+            (λ refusal. Unmade controller (n ∷ []) (row_length n r) refusal × (calls.new ≡ calls.old)) }
     {
         let mut enumerator = Permutations::new(n, r)?;
         Ok(run(&mut enumerator, calls))
@@ -60,55 +61,36 @@ impl Permutations {
 // It reads like that of a climbing enumerator. One impl for both would take a trait over what stands in the Option, with its law, its list
 // and three functions, and an impl of it for each: more lines than this.
 impl Enumerator for Permutations {
-    ghost ahead = { λ s. ahead_from (option_map (take s.choice.r) (option_map (λ t. t.indices) s.turning)) (permutation_rows s.choice.n s.choice.r) };
-
-    ghost size = { λ s. s.choice.n };
-
-    ghost width = { λ s. s.choice.r };
-
-    ghost starts = { λ _. one_start 64 };
-
-    ghost uniform = { λ s.
-        let n = s.choice.n in
-        let r = s.choice.r in
-        Standing.uniform (PermutationRow n r) r (permutation_rows n r) (permutations_listed n r) (option_map (take r) (option_map (λ t. t.indices) s.turning)) };
-
-    ghost within = { λ s.
-        let n = s.choice.n in
-        let r = s.choice.r in
-        within_one (PermutationRow n r) r (permutation_rows n r) (permutations_listed n r) 64 n s.choice.short (λ y law. law.below) (option_map (take r) (option_map (λ t. t.indices) s.turning)) };
-
-    ghost reaching = { λ s. one_start_long 64 s.choice.r s.choice.short };
-
-    ghost short = { λ s. s.choice.short };
-
-    ghost small = { λ s. few_small s.choice.n s.choice.few };
+    ghost shown = { λ s. one_pool (permutation_rows s.standing.choice.n s.standing.choice.r)
+        s.standing.choice.n s.standing.choice.r (option_map (λ c. c.indices) s.standing.cycles) };
 
     fn pool_len(&self) -> usize {
-        self.choice.n
+        self.standing.choice.n
     }
 
     fn row_len(&self) -> usize {
-        self.choice.r
+        self.standing.choice.r
     }
 
-    #[tactic(auto, unfolding(rows::specs::Calls::one_start))]
-    fn pool_starts(&self) -> [u16; 64] {
-        [0; 64]
+    fn pool_start(&self, _place: usize) -> usize {
+        0
     }
 
     fn row(&self) -> Option<&[u16]> {
-        let turning = self.turning.as_ref()?;
-        Some(&turning.indices[0..self.choice.r])
+        let cycles = self.standing.cycles.as_ref()?;
+        Some(&cycles.indices[0..self.standing.choice.r])
     }
 
     fn advance(&mut self) {
-        let choice = self.choice;
-        let Some(turning) = &mut self.turning else {
+        let choice = self.standing.choice;
+        let Some(at) = &mut self.standing.cycles else {
             return;
         };
-        if !turning.turn(choice) {
-            self.turning = None;
+        if !step(choice.n, choice.r, &mut at.indices, &mut at.cycles) {
+            self.standing.cycles = None;
         }
     }
+
+    ghost fits = { λ s. permutations_fit s.standing.choice.n s.standing.choice.r s.standing.choice.few
+        s.standing.choice.short (option_map (λ c. c.indices) s.standing.cycles) };
 }

@@ -1,6 +1,8 @@
-mod Reasons
-mod Joints
-mod Passing
-mod Reports
-mod Verdicts
-mod Widths
+mod PassLemmas
+mod MinutesLemmas
+mod BaysLemmas
+mod AccountLemmas
+mod ColumnsLemmas
+mod TextLemmas
+mod OutcomeLemmas
+mod InputLemmas

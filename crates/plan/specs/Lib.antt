@@ -1,6 +1,7 @@
-pub mod Seams
-pub mod Plans
-pub mod Parts
-pub mod Texts
-pub mod Verdicts
-pub mod Reports
+pub mod Seam
+pub mod Bays
+pub mod Pass
+pub mod Account
+pub mod Columns
+pub mod Text
+pub mod Outcome

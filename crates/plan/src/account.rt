@@ -1,88 +1,82 @@
-ghost use Rattle.std.specs.Prelude.{◌≡◌, IfOk};
-ghost use Rattle.laws.specs.Items.{items as items_of, faults as faults_of};
+ghost use Rattle.std.specs.Prelude.{◌≡◌, ◌↔◌, IsTrue, IfOk};
 ghost use Rattle.sources.specs.Records.{records_from};
-ghost use Rattle.plan.specs.Seams.{joints};
-ghost use Rattle.plan.specs.Plans.{all_clear, tally_of, Accounts};
+ghost use Rattle.plan.specs.Pass.{Passes};
+ghost use Rattle.plan.specs.Account.{account_of, all_clear, nothing_counted, one_block, HasRoom};
 
-use crate::seam::{Finding, Joint, count_findings, lay_side_by_side};
-use crate::split::split_steps;
-use adapters::Pairwise;
-use sources::{Block, List, Records};
+use crate::bays::{Bays, Laid};
+use sources::Records;
 use std::alloc::{AllocError, Global};
-use steps::{Fault, collect};
+use steps::{Answer, Source};
 
-// How often each thing was found in a plan.
+/// How often each thing was found in a plan. Only `check` makes one.
 #[derive(Clone, Copy, PartialEq, Eq, Debug)]
-pub struct Tally {
-    pub faults: usize,
-    pub pairs: usize,
-    pub overlaps: usize,
-    pub out_of_order: usize,
-    pub long_gaps: usize,
+pub struct Account {
+    pub(crate) blocks: usize,
+    pub(crate) faults: usize,
+    pub(crate) pairs: usize,
+    pub(crate) overlaps: usize,
+    pub(crate) out_of_order: usize,
+    pub(crate) long_gaps: usize,
 }
 
-impl Tally {
-    // A plan passes if no record is faulty, no block overlaps the next, no bay is out of order and no gap is long.
+impl Account {
+    fn new() -> Account
+        ensures { result ≡ nothing_counted }
+    {
+        Account {
+            blocks: 0,
+            faults: 0,
+            pairs: 0,
+            overlaps: 0,
+            out_of_order: 0,
+            long_gaps: 0,
+        }
+    }
+
+    // One more block, and what it was laid beside.
+    fn with_block(self, laid: Laid) -> Account
+        requires { HasRoom self }
+        ensures { result ≡ one_block self laid }
+    {
+        let Laid { descent, pair } = laid;
+        Account {
+            blocks: self.blocks + 1,
+            faults: self.faults,
+            pairs: self.pairs + usize::from(pair.is_some()),
+            overlaps: self.overlaps
+                + usize::from(pair.is_some_and(|joint| joint.seam.is_overlap())),
+            out_of_order: self.out_of_order + usize::from(descent.is_some()),
+            long_gaps: self.long_gaps
+                + usize::from(pair.is_some_and(|joint| joint.seam.is_long_gap())),
+        }
+    }
+
+    /// Whether the plan passes: no record is faulty, no block overlaps the blocks before it in its
+    /// bay, no bay is out of order and no gap is of ten minutes or more.
     pub fn passed(self) -> bool
         ensures { result ≡ all_clear self }
     {
         self.faults == 0 && self.overlaps == 0 && self.out_of_order == 0 && self.long_gaps == 0
     }
-
-    // Counts what was found.
-    fn of(faults: usize, joints: &[Joint]) -> Tally
-        ensures { result ≡ tally_of faults joints.now }
-    {
-        Tally {
-            faults,
-            pairs: count_findings(joints, Finding::Pair),
-            overlaps: count_findings(joints, Finding::Overlapping),
-            out_of_order: count_findings(joints, Finding::OutOfOrder),
-            long_gaps: count_findings(joints, Finding::LongGap),
-        }
-    }
 }
 
-// What a plan holds, and how its blocks lie.
-#[derive(Drop)]
-pub struct Account {
-    pub blocks: Vec<Block>,
-    pub faults: Vec<Fault>,
-    pub joints: Vec<Joint>,
-    pub tally: Tally,
-}
-
-// The blocks and the faulty records of a plan, each in the order of the plan.
-fn read_plan(heap: Global, bytes: &[u8]) -> Result<(Vec<Block>, Vec<Fault>), AllocError>
-    ensures { IfOk result (λ p. (p.0.items ≡ items_of (records_from bytes.now 0)) × (p.1.items ≡ faults_of (records_from bytes.now 0))) }
+/// Counts what a plan holds, from its record bytes: blocks, faulty records, pairs of neighbours in
+/// a bay, and what a plan fails for. Two neighbours of a bay are a pair whatever lies between them
+/// in the plan.
+///
+/// It wants memory for each bay, not for each block; a fault is want of memory alone.
+pub fn check(heap: Global, bytes: &[u8]) -> Result<Account, AllocError>
+    ensures counts { IfOk result (λ a. a ≡ account_of (records_from bytes.now 0)) }
+    ensures law { IfOk result (λ a. IsTrue (all_clear a) ↔ Passes (records_from bytes.now 0)) }
 {
     let mut records = Records::new(bytes);
-    let steps = collect(heap, &mut records)?;
-    split_steps(heap, steps.as_slice())
-}
-
-// Every block laid side by side with the next.
-#[tactic(auto, using(crate::proofs::Joints::laid_out))]
-fn lay_out(heap: Global, blocks: &[Block]) -> Result<Vec<Joint>, AllocError>
-    ensures { IfOk result (λ v. v.items ≡ joints blocks.now) }
-{
-    let mut neighbours = Pairwise::new(List::new(blocks));
-    let steps = collect(heap, &mut neighbours)?;
-    let (pairs, _) = split_steps(heap, steps.as_slice())?;
-    lay_side_by_side(heap, pairs.as_slice())
-}
-
-// Reads a plan from its record bytes, and lays every two neighbouring blocks side by side.
-pub fn check(heap: Global, bytes: &[u8]) -> Result<Account, AllocError>
-    ensures unless_out_of_memory { IfOk result (λ a. Accounts bytes.now a) }
-{
-    let (blocks, faults) = read_plan(heap, bytes)?;
-    let joints = lay_out(heap, blocks.as_slice())?;
-    let tally = Tally::of(faults.len(), joints.as_slice());
-    Ok(Account {
-        blocks,
-        faults,
-        joints,
-        tally,
-    })
+    let mut bays = Bays::new(heap);
+    let mut account = Account::new();
+    loop {
+        match records.next() {
+            Ok(Answer::Item(block)) => account = account.with_block(bays.lay(block)?),
+            Ok(Answer::End) => return Ok(account),
+            Err(_) => account.faults += 1,
+        }
+    }
 }

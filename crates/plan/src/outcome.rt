@@ -1,19 +1,35 @@
-ghost use Rattle.std.specs.Prelude.{◌≡◌, ℕ, true, false, List, ◌++◌, IfOk, string_bytes, codes};
-ghost use Rattle.plan.specs.Plans.{all_clear};
-ghost use Rattle.sources.specs.Records.{records_from};
-ghost use Rattle.plan.specs.Reports.{report_text, TellsSound};
+ghost use Rattle.std.specs.Prelude.{
+  ◌≡◌,
+  ◌↔◌,
+  ℕ,
+  true,
+  false,
+  List,
+  ◌++◌,
+  IsTrue,
+  IfOk,
+  OnOk,
+  string_bytes,
+  codes,
+};
 ghost use Rattle.std.specs.List.{fold};
-ghost use Rattle.plan.specs.Verdicts.{and_reason, verdict_line};
+ghost use Rattle.std.specs.Io.KnownBytes.{Appends};
+ghost use Rattle.sources.specs.Records.{records_from};
+ghost use Rattle.plan.specs.Pass.{Passes};
+ghost use Rattle.plan.specs.Account.{account_of, all_clear};
+ghost use Rattle.plan.specs.Outcome.{and_reason, report_text, verdict_line, OneLine, Tells};
 
-use crate::account::{Tally, check};
+use crate::account::{Account, check};
 use crate::text::write_account;
 use std::alloc::{AllocError, Global};
-use std::fmt;
-use std::fmt::Write;
+use std::fmt::Write as _;
+use std::io;
+use std::io::Write as _;
 
 // `plan failed`, and the reasons of which there is any, each with how many there are of it.
 fn failed(heap: Global, reasons: &[(usize, &str)]) -> Result<String, AllocError>
-    ensures { IfOk result (λ s. string_bytes s ≡ fold and_reason (codes "plan failed") reasons.now) }
+    ensures { IfOk result (λ s.
+        string_bytes s ≡ fold and_reason (codes "plan failed") reasons.now) }
 {
     let mut line = String::from_str(heap, "plan failed")?;
     let mut mark = ": ";
@@ -26,36 +42,55 @@ fn failed(heap: Global, reasons: &[(usize, &str)]) -> Result<String, AllocError>
     Ok(line)
 }
 
-// The one line that planners read: `plan passed`, or `plan failed` and why.
-#[tactic(auto, unfolding(crate::specs::Verdicts::failed_line))]
-pub fn verdict(heap: Global, tally: Tally) -> Result<String, AllocError>
-    ensures unless_out_of_memory { IfOk result (λ s. string_bytes s ≡ verdict_line tally) }
+/// The one line that planners read: `plan passed`, or `plan failed` and why, as in
+/// `plan failed: overlaps 1, gaps of ten minutes or more 2`. A fault is want of memory alone.
+#[tactic(auto, unfolding(crate::specs::Outcome::failed_line))]
+pub fn verdict(heap: Global, account: Account) -> Result<String, AllocError>
+    ensures line { IfOk result (λ s. string_bytes s ≡ verdict_line account) }
+    ensures single { IfOk result (λ s. OneLine (string_bytes s)) }
     ensures law { IfOk result (λ s.
-        (all_clear tally ≡ true → string_bytes s ≡ codes "plan passed")
-        × (all_clear tally ≡ false → (why : List ℕ) × (string_bytes s ≡ codes "plan failed" ++ why))) }
+        (all_clear account ≡ true → string_bytes s ≡ codes "plan passed")
+        × (all_clear account ≡ false →
+        (why : List ℕ) × (string_bytes s ≡ codes "plan failed" ++ why))) }
 {
-    if tally.passed() {
+    if account.passed() {
         return String::from_str(heap, "plan passed");
     }
     failed(
         heap,
         &[
-            (tally.faults, "faulty records"),
-            (tally.overlaps, "overlaps"),
-            (tally.out_of_order, "bays out of order"),
-            (tally.long_gaps, "gaps of ten minutes or more"),
+            (account.faults, "faulty records"),
+            (account.overlaps, "overlaps"),
+            (account.out_of_order, "bays out of order"),
+            (account.long_gaps, "gaps of ten minutes or more"),
         ],
     )
 }
 
-// Checks a plan from its record bytes, and gives all that is to be said of it: the account, and the verdict as its last line.
-pub fn report(heap: Global, bytes: &[u8]) -> Result<String, fmt::Error>
-    ensures unless_out_of_memory { IfOk result (λ s. string_bytes s ≡ report_text (records_from bytes.now 0)) }
-    ensures law { IfOk result (λ s. TellsSound (records_from bytes.now 0) (string_bytes s)) }
+/// Checks a plan from its record bytes, and writes all that is to be said of it: the plan's name,
+/// its blocks, its faulty records, every two neighbouring blocks of a bay, and the verdict as the
+/// last line.
+///
+/// What is written grows with the plan; what is held in memory grows with its bays. A fault is want
+/// of memory or the writer's own; then the front of the report may have been written.
+pub fn report<W: io::Write>(
+    heap: Global,
+    out: &mut W,
+    name: &str,
+    bytes: &[u8],
+) -> io::Result<Account>
+    ensures counts { IfOk result (λ a. a ≡ account_of (records_from bytes.now 0)) }
+    ensures verdict { IfOk result (λ a. IsTrue (all_clear a) ↔ Passes (records_from bytes.now 0)) }
+    ensures text { OnOk result (Appends (W.contents out.old) (W.contents out.new)
+        (report_text name.now bytes.now)) }
+    ensures law { OnOk result ((text : List ℕ)
+        × Appends (W.contents out.old) (W.contents out.new) text × Tells name.now bytes.now text) }
 {
     let account = check(heap, bytes)?;
-    let mut text = write_account(heap, &account)?;
-    let line = verdict(heap, account.tally)?;
-    writeln!(text, "{line}")?;
-    Ok(text)
+    let line = verdict(heap, account)?;
+    let size = bytes.len();
+    writeln!(out, "plan: {name}, {size} bytes")?;
+    write_account(heap, out, bytes, account)?;
+    writeln!(out, "{line}")?;
+    Ok(account)
 }

@@ -1,97 +1,54 @@
-ghost use Rattle.std.specs.Prelude.{◌≡◌, map, IfOk};
-ghost use Rattle.plan.specs.Seams.{seam_of, joint_of, is_finding, count};
+ghost use Rattle.std.specs.Prelude.{◌≡◌};
+ghost use Rattle.plan.specs.Seam.{seam_from, is_overlap as overlaps, is_long_gap as gapes};
 
 use sources::Block;
-use std::alloc::{AllocError, Global};
 
 // Minutes without a block that a plan may not have.
-const LONG_GAP: u16 = 10;
+pub const LONG_GAP: u16 = 10;
 
-// How two neighbouring blocks of a plan lie.
+// How a block lies beside the one that it is laid beside.
 #[derive(Clone, Copy, PartialEq, Eq, Debug)]
 pub enum Seam {
-    // the second is at a later bay
-    OtherBay,
-    // the second is at an earlier bay
+    // it is at a lower bay than the block before it in the plan
     BayOutOfOrder,
-    // the second starts so many minutes before the first ends
+    // it starts so many minutes before the latest end so far in its bay
     Overlap(u16),
-    // so many minutes between them are unassigned
+    // so many minutes from that end to its start are unassigned
     Gap(u16),
 }
 
-// What is counted of the seams.
-#[derive(Clone, Copy, PartialEq, Eq, Debug)]
-pub enum Finding {
-    Pair,
-    Overlapping,
-    OutOfOrder,
-    LongGap,
-}
-
-// Two neighbouring blocks, laid side by side.
+// Two blocks, laid side by side.
 #[derive(Clone, Copy, PartialEq, Eq, Debug)]
 pub struct Joint {
     pub first: Block,
     pub second: Block,
+    // the latest end so far in the bay of the first
+    pub until: u16,
     pub seam: Seam,
 }
 
 impl Seam {
-    // How the second block lies beside the first.
-    pub fn between(first: Block, second: Block) -> Seam
-        ensures { result ≡ seam_of first second }
+    // How a block lies in a bay that is taken until a minute.
+    pub fn from(until: u16, block: Block) -> Seam
+        ensures { result ≡ seam_from until block }
     {
-        if second.bay < first.bay {
-            Seam::BayOutOfOrder
-        } else if first.bay < second.bay {
-            Seam::OtherBay
-        } else if second.start < first.end {
-            Seam::Overlap(first.end - second.start)
+        if block.start < until {
+            Seam::Overlap(until - block.start)
         } else {
-            Seam::Gap(second.start - first.end)
+            Seam::Gap(block.start - until)
         }
     }
 
-    pub fn is(self, finding: Finding) -> bool
-        ensures { result ≡ is_finding finding self }
+    pub fn is_overlap(self) -> bool
+        ensures { result ≡ overlaps self }
     {
-        match finding {
-            Finding::Pair => matches!(self, Seam::Overlap(_) | Seam::Gap(_)),
-            Finding::Overlapping => matches!(self, Seam::Overlap(_)),
-            Finding::OutOfOrder => matches!(self, Seam::BayOutOfOrder),
-            Finding::LongGap => matches!(self, Seam::Gap(minutes) if minutes >= LONG_GAP),
-        }
+        matches!(self, Seam::Overlap(_))
     }
-}
 
-impl Joint {
-    // The two blocks laid side by side.
-    fn between(first: Block, second: Block) -> Joint
-        ensures { result ≡ joint_of (first, second) }
+    // A gap that a plan may not have.
+    pub fn is_long_gap(self) -> bool
+        ensures { result ≡ gapes self }
     {
-        Joint {
-            first,
-            second,
-            seam: Seam::between(first, second),
-        }
+        matches!(self, Seam::Gap(minutes) if minutes >= LONG_GAP)
     }
-}
-
-// Lays the two blocks of each pair side by side.
-pub fn lay_side_by_side(heap: Global, pairs: &[(Block, Block)]) -> Result<Vec<Joint>, AllocError>
-    ensures { IfOk result (λ v. v.items ≡ map joint_of pairs.now) }
-{
-    pairs
-        .iter()
-        .map(|pair| Joint::between(pair.0, pair.1))
-        .collect(heap)
-}
-
-// How many seams are such a finding.
-#[tactic(auto, using(crate::proofs::Joints::found))]
-pub fn count_findings(joints: &[Joint], finding: Finding) -> usize
-    ensures { result ≡ count finding joints.now }
-{
-    joints.iter().filter(|joint| joint.seam.is(finding)).count()
 }

@@ -1,15 +1,29 @@
-ghost use Rattle.std.specs.Prelude.{◌≡◌, ℕ, List, Some, IfOk, string_bytes};
-ghost use Rattle.std.specs.Fmt.{WritesOnOk};
-ghost use Rattle.std.specs.List.{flat_map};
-ghost use Rattle.plan.specs.Texts.{reason_of, block_line, fault_line, joint_line, account_text};
+ghost use Rattle.std.specs.Prelude.{◌≡◌, Some, IfOk, OnOk};
+ghost use Rattle.std.specs.Io.KnownBytes.{Appends};
+ghost use Rattle.laws.specs.Items.{items as items_of, faults as faults_of};
+ghost use Rattle.sources.specs.Records.{records_from};
+ghost use Rattle.plan.specs.Text.{
+  reason_of,
+  block_line,
+  fault_line,
+  joint_line,
+  laid_lines,
+  blocks_line,
+  blocks_text,
+  faults_text,
+  joints_text,
+  account_text,
+};
 
 use crate::account::Account;
-use crate::columns::{Bay, Stay};
+use crate::bays::{Bays, Laid};
+use crate::columns::{Bay, Stay, Taken};
 use crate::seam::{Joint, Seam};
-use sources::{Block, Cause, UnknownCause};
+use sources::{Block, Cause, Records, UnknownCause};
 use std::alloc::Global;
-use std::fmt;
-use steps::Fault;
+use std::io::Write as _;
+use std::{fmt, io};
+use steps::{Answer, Fault, Source};
 
 // Why a record is faulty.
 fn reason(cause: u16) -> &'static str
@@ -25,91 +39,172 @@ fn reason(cause: u16) -> &'static str
     }
 }
 
-// What has a line of its own in an account. No Display, since blocks and faults are types of other crates.
-trait Line {
-    ghost line: { Self → List ℕ };
+// The line of a block.
+#[derive(Clone, Copy)]
+struct BlockLine(Block);
 
-    // Writes the line with its line feed, or nothing where there is nothing to say.
-    fn write<W: fmt::Write>(&self, f: &mut fmt::Formatter<W>) -> fmt::Result
-        ensures { WritesOnOk W.write_str_gives f.old result (line self.now) f.new };
-}
+impl fmt::Display for BlockLine {
+    ghost output = { λ l. Some (block_line l.0) };
 
-impl Line for Block {
-    ghost line = { block_line };
-
-    fn write<W: fmt::Write>(&self, f: &mut fmt::Formatter<W>) -> fmt::Result {
-        let (bay, stay) = (Bay(self.bay), Stay(*self));
+    fn fmt<W: fmt::Write>(&self, f: &mut fmt::Formatter<W>) -> fmt::Result {
+        let (bay, stay) = (Bay(self.0.bay), Stay(self.0));
         writeln!(f, "  {bay}  {stay}")
     }
 }
 
-impl Line for Fault {
-    ghost line = { fault_line };
+// The line of a faulty record.
+#[derive(Clone, Copy)]
+struct FaultLine(Fault);
 
-    #[tactic(auto, using(crate::proofs::Widths::in_column))]
-    fn write<W: fmt::Write>(&self, f: &mut fmt::Formatter<W>) -> fmt::Result {
-        let (place, cause, reason) = (self.place, self.cause, reason(self.cause));
+impl fmt::Display for FaultLine {
+    ghost output = { λ l. Some (fault_line l.0) };
+
+    #[tactic(auto, using(crate::proofs::ColumnsLemmas::in_column))]
+    fn fmt<W: fmt::Write>(&self, f: &mut fmt::Formatter<W>) -> fmt::Result {
+        let (place, cause, reason) = (self.0.place, self.0.cause, reason(self.0.cause));
         writeln!(f, "  byte {place:>7}  cause {cause}: {reason}")
     }
 }
 
-impl Line for Joint {
-    ghost line = { joint_line };
+// The line of two blocks that were laid side by side.
+#[derive(Clone, Copy)]
+struct JointLine(Joint);
 
-    #[tactic(auto, using(crate::proofs::Widths::in_column))]
-    fn write<W: fmt::Write>(&self, f: &mut fmt::Formatter<W>) -> fmt::Result {
+impl fmt::Display for JointLine {
+    ghost output = { λ l. Some (joint_line l.0) };
+
+    #[tactic(auto, using(crate::proofs::ColumnsLemmas::in_column))]
+    fn fmt<W: fmt::Write>(&self, f: &mut fmt::Formatter<W>) -> fmt::Result {
         let Joint {
             first,
             second,
+            until,
             seam,
-        } = *self;
+        } = self.0;
         let (bay, other) = (Bay(first.bay), second.bay);
         let (stay, next) = (Stay(first), Stay(second));
+        let taken = Taken {
+            end: first.end,
+            until,
+        };
         match seam {
-            Seam::OtherBay => Ok(()),
             Seam::BayOutOfOrder => {
                 writeln!(f, "  {bay}  is followed by bay {other}: out of order")
             }
             Seam::Overlap(minutes) => writeln!(
                 f,
-                "  {bay}  {stay}  then {next}  starts {minutes} min too early"
+                "  {bay}  {stay}  then {next}  starts {minutes} min too early{taken}"
             ),
             Seam::Gap(minutes) => writeln!(
                 f,
-                "  {bay}  {stay}  then {next}  {minutes:>4} min unassigned"
+                "  {bay}  {stay}  then {next}  {minutes:>4} min unassigned{taken}"
             ),
         }
     }
 }
 
-// The lines of a list, one after another.
-#[derive(Drop)]
-struct Lines<'a, T>(&'a [T]);
+// The lines of one more block, of what it was laid beside.
+#[derive(Clone, Copy)]
+struct LaidLines(Laid);
 
-impl<T: Line> fmt::Display for Lines<'_, T> {
-    ghost output = { λ ls. Some (flat_map T.line ls.0.now) };
+impl fmt::Display for LaidLines {
+    ghost output = { λ l. Some (laid_lines l.0) };
 
     fn fmt<W: fmt::Write>(&self, f: &mut fmt::Formatter<W>) -> fmt::Result {
-        for item in self.0 {
-            item.write(f)?;
+        if let Some(joint) = self.0.descent {
+            let line = JointLine(joint);
+            write!(f, "{line}")?;
+        }
+        if let Some(joint) = self.0.pair {
+            let line = JointLine(joint);
+            write!(f, "{line}")?;
         }
         Ok(())
     }
 }
 
-// The account of a checked plan, but for its verdict.
-pub fn write_account(heap: Global, account: &Account) -> Result<String, fmt::Error>
-    ensures unless_out_of_memory { IfOk result (λ s. string_bytes s ≡ account_text account.now.blocks.items account.now.faults.items account.now.joints.items account.now.tally.pairs) }
+// A line for every block.
+fn write_blocks<W: io::Write>(out: &mut W, bytes: &[u8]) -> io::Result<()>
+    ensures { OnOk result (Appends (W.contents out.old) (W.contents out.new)
+        (blocks_text (items_of (records_from bytes.now 0)))) }
 {
-    let (blocks, faults, joints) = (
-        account.blocks.as_slice(),
-        account.faults.as_slice(),
-        account.joints.as_slice(),
-    );
-    let (readable, faulty, pairs) = (blocks.len(), faults.len(), account.tally.pairs);
-    let (blocks, faults, joints) = (Lines(blocks), Lines(faults), Lines(joints));
-    let text = format!(in heap;
-        "blocks: {readable}\n{blocks}faulty records: {faulty}\n{faults}neighbours\n{joints}pairs: {pairs}\n"
-    )?;
-    Ok(text)
+    let mut records = Records::new(bytes);
+    loop {
+        match records.next() {
+            Ok(Answer::Item(block)) => {
+                let line = BlockLine(block);
+                write!(out, "{line}")?;
+            }
+            Ok(Answer::End) => return Ok(()),
+            Err(_) => {}
+        }
+    }
+}
+
+// A line for every faulty record.
+fn write_faults<W: io::Write>(out: &mut W, bytes: &[u8]) -> io::Result<()>
+    ensures { OnOk result (Appends (W.contents out.old) (W.contents out.new)
+        (faults_text (faults_of (records_from bytes.now 0)))) }
+{
+    let mut records = Records::new(bytes);
+    loop {
+        match records.next() {
+            Ok(Answer::Item(_)) => {}
+            Ok(Answer::End) => return Ok(()),
+            Err(fault) => {
+                let line = FaultLine(fault);
+                write!(out, "{line}")?;
+            }
+        }
+    }
+}
+
+// A line for every two neighbouring blocks of a bay, and for every bay out of order.
+fn write_neighbours<W: io::Write>(heap: Global, out: &mut W, bytes: &[u8]) -> io::Result<()>
+    ensures { OnOk result (Appends (W.contents out.old) (W.contents out.new)
+        (joints_text (items_of (records_from bytes.now 0)))) }
+{
+    let mut records = Records::new(bytes);
+    let mut bays = Bays::new(heap);
+    loop {
+        match records.next() {
+            Ok(Answer::Item(block)) => {
+                let lines = LaidLines(bays.lay(block)?);
+                write!(out, "{lines}")?;
+            }
+            Ok(Answer::End) => return Ok(()),
+            Err(_) => {}
+        }
+    }
+}
+
+// How many blocks there are.
+fn write_block_count<W: io::Write>(out: &mut W, blocks: usize) -> io::Result<()>
+    ensures { OnOk result (Appends (W.contents out.old) (W.contents out.new) (blocks_line blocks)) }
+{
+    if blocks == 0 {
+        writeln!(out, "no blocks")
+    } else {
+        writeln!(out, "blocks: {blocks}")
+    }
+}
+
+// What a plan holds and how its blocks lie, without the verdict.
+pub fn write_account<W: io::Write>(
+    heap: Global,
+    out: &mut W,
+    bytes: &[u8],
+    account: Account,
+) -> io::Result<()>
+    ensures { OnOk result (Appends (W.contents out.old) (W.contents out.new)
+        (account_text (records_from bytes.now 0) account)) }
+{
+    let (blocks, faults, pairs) = (account.blocks, account.faults, account.pairs);
+    write_block_count(out, blocks)?;
+    write_blocks(out, bytes)?;
+    writeln!(out, "faulty records: {faults}")?;
+    write_faults(out, bytes)?;
+    writeln!(out, "neighbours")?;
+    write_neighbours(heap, out, bytes)?;
+    writeln!(out, "pairs: {pairs}")
 }

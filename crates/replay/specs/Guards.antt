@@ -1,12 +1,12 @@
--- What a predicate says that meets a fault at one item.
-use Rattle.std.specs.Prelude.{ℕ, Bool, cond, Some, None, Err, Option, Result, ◌==◌}
+-- What a rule says that meets a fault at one item.
+use Rattle.std.specs.Prelude.{ℕ, cond, Some, None, Err, Option, Result, ◌==◌}
 use Rattle.steps.specs.declared.fault.Fault.{Fault}
 
--- the fault that stands in place of an answer
-abbrev pub no_answer : Fault
-no_answer = record { origin = 2; cause = 1; place = 0 }
+-- the fault that stands in place of an answer, of a rule's origin
+abbrev pub no_answer : ℕ → Fault
+no_answer from = record { origin = from; cause = 1; place = 0 }
 
--- the answer `said` to an item, unless the item is the bad one
-abbrev pub guarded : Option ℕ → ℕ → Result Bool Fault → Result Bool Fault
-guarded None n said = said
-guarded (Some bad) n said = cond (bad == n) (Err no_answer) said
+-- what is said of an item, unless the item is the bad one
+abbrev pub guarded : {A : Type 0} → ℕ → Option ℕ → ℕ → Result A Fault → Result A Fault
+guarded from None n said = said
+guarded from (Some bad) n said = cond (bad == n) (Err (no_answer from)) said

@@ -1,14 +1,20 @@
 -- The lines that answers are written as.
-use Rattle.std.specs.Prelude.{ℕ, zero, suc, Bool, true, false, List, [], ◌∷◌, ◌++◌, Some, None, Ok, Err, vec_items, codes, decimal, Option, Result}
+use Rattle.std.specs.Prelude.{ℕ, zero, suc, Bool, true, false, List, [], ◌∷◌, ◌++◌, Some, None, Ok, Err, vec_items, codes, decimal, encode_utf8, cond, ◌==◌, Option, Result}
 use Rattle.steps.specs.Steps.{Step}
-use Rattle.std.specs.List.{flat_map}
+use Rattle.std.specs.List.{flat_map, list_all}
 use Rattle.steps.specs.declared.answer.Answer.{Answer}
 use Rattle.steps.specs.declared.answer.Answer.TheVariants.{Item as answer_item, End}
 use Rattle.steps.specs.declared.fault.Fault.{Fault}
 use Rattle.steps.specs.declared.refusal.Refusal.{Refusal}
+use Rattle.steps.specs.declared.call_error.CallError.{CallError}
+use Rattle.steps.specs.declared.call_error.CallError.TheVariants.{Refused, Broken}
 use Rattle.steps.specs.Refusals.{refusal_number}
 use Rattle.sources.specs.declared.block.Block.{Block}
 use Rattle.enumerators.specs.declared.history.Call.{Call}
+use Rattle.tee.specs.declared.history.Told.{Told as TeeTold}
+use Rattle.tee.specs.declared.history.Told.TheVariants.{Stepped, Copied}
+use Rattle.groups.specs.declared.history.Told.{Told as GroupsTold}
+use Rattle.groups.specs.declared.history.Told.TheVariants.{Opened, Given}
 
 abbrev pub item_line : ℕ → List ℕ
 item_line n = codes "item " ++ (decimal n ++ codes "\n")
@@ -53,11 +59,63 @@ call_line call = row_word call.answer ++ (codes " places" ++ (each spaced (vec_i
 abbrev pub end_line : List ℕ
 end_line = codes "end\n"
 
+-- the line of what is given where no fault is met
+abbrev pub given_line : {A : Type 0} → (A → List ℕ) → Answer A → List ℕ
+given_line line (answer_item a) = line a
+given_line line End = end_line
+
+-- the line of why a call gave no answer
+abbrev pub error_line : CallError → List ℕ
+error_line (Refused refusal) = refused_line (refusal_number refusal)
+error_line (Broken fault) = fault_line fault
+
+abbrev pub result_line : {A E : Type 0} → (A → List ℕ) → (E → List ℕ) → Result A E → List ℕ
+result_line line other (Ok a) = line a
+result_line line other (Err e) = other e
+
+-- a group, by its key and its number
+abbrev pub group_line : ℕ × ℕ → List ℕ
+group_line g = codes "group " ++ (decimal g.0 ++ (codes " " ++ (decimal g.1 ++ codes "\n")))
+
+abbrev pub branch_line : ℕ → List ℕ
+branch_line n = codes "branch " ++ (decimal n ++ codes "\n")
+
+abbrev pub listed_line : ℕ → List ℕ
+listed_line n = codes "listed " ++ (decimal n ++ codes "\n")
+
+-- a mark where a line begins, and nothing elsewhere
+abbrev pub mark : Bool → List ℕ
+mark true = codes "| "
+mark false = []
+
+-- text with a mark before each of its lines, where a line begins or is gone on with
+abbrev pub marked : Bool → List ℕ → List ℕ
+marked begins [] = []
+marked begins (byte ∷ bytes) = mark begins ++ (encode_utf8 byte ++ marked (byte == 10) bytes)
+
+-- whether each byte is the one that was there before
+abbrev pub rest_line : List ℕ → List ℕ
+rest_line rest = cond (list_all (λ byte. byte == 42) rest) (codes "rest kept\n") (codes "rest changed\n")
+
+-- the numbers in a store
+abbrev pub store_line : List ℕ → List ℕ
+store_line places = codes "store" ++ (each spaced places ++ codes "\n")
+
 -- the line of an answer
 abbrev pub answer_line : {A : Type 0} → (A → List ℕ) → Result (Answer A) Fault → List ℕ
-answer_line line (Ok (answer_item a)) = line a
-answer_line line (Ok End) = end_line
-answer_line line (Err f) = fault_line f
+answer_line line r = result_line (given_line line) fault_line r
+
+-- the line of a call on a tee, and none for a call that was not made
+abbrev pub tee_line : Option (TeeTold ℕ) → List ℕ
+tee_line None = []
+tee_line (Some (Stepped r)) = result_line (given_line item_line) error_line r
+tee_line (Some (Copied r)) = result_line branch_line (λ n. refused_line (refusal_number n)) r
+
+-- the line of a call on groups, and none for a call that was not made
+abbrev pub groups_line : Option (GroupsTold ℕ ℕ) → List ℕ
+groups_line None = []
+groups_line (Some (Opened r)) = result_line (given_line group_line) error_line r
+groups_line (Some (Given r)) = answer_line item_line r
 
 abbrev pub says_end : {A : Type 0} → Result (Answer A) Fault → Bool
 says_end (Ok (answer_item a)) = false

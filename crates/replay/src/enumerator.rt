@@ -23,28 +23,22 @@ const UNTOUCHED: u16 = 7777;
 impl Player {
     // `product Q L1,L2,.. ; CALLS`
     pub fn product(&mut self, repeat: &str, pools: &str, calls: &str) -> Result<(), Flaw> {
-        let repeat = number32(repeat)?;
-        let lengths = lengths(self.heap, pools)?;
-        self.make_calls(Product::new(lengths.as_slice(), repeat), calls)
+        self.make_calls(make_product(self.heap, repeat, pools)?, calls)
     }
 
     // `combinations N R ; CALLS`
     pub fn combinations(&mut self, n: &str, r: &str, calls: &str) -> Result<(), Flaw> {
-        let made = Combinations::new(number(n)? as usize, number(r)? as usize);
-        self.make_calls(made, calls)
+        self.make_calls(make_combinations(n, r)?, calls)
     }
 
     // `replacement N R ; CALLS`
     pub fn replacement(&mut self, n: &str, r: &str, calls: &str) -> Result<(), Flaw> {
-        let made = CombinationsWithReplacement::new(number(n)? as usize, number(r)? as usize);
-        self.make_calls(made, calls)
+        self.make_calls(make_replacement(n, r)?, calls)
     }
 
     // `permutations N R ; CALLS`, where R may be `-`
     pub fn permutations(&mut self, n: &str, r: &str, calls: &str) -> Result<(), Flaw> {
-        let n = number(n)? as usize;
-        let r = optional(r, "-")?.map(|r| r as usize);
-        self.make_calls(Permutations::new(n, r), calls)
+        self.make_calls(make_permutations(n, r)?, calls)
     }
 
     // Makes the calls on what was made, and writes a line for each.
@@ -71,6 +65,34 @@ impl Player {
         run(&mut enumerator, calls.as_mut_slice());
         show_calls(calls.as_slice(), &mut self.out)
     }
+}
+
+// What the making that words tell of gives, which may be a refusal.
+pub fn make_product(
+    heap: Global,
+    repeat: &str,
+    pools: &str,
+) -> Result<Result<Product, Refusal>, Flaw> {
+    let repeat = number32(repeat)?;
+    let lengths = lengths(heap, pools)?;
+    Ok(Product::new(lengths.as_slice(), repeat))
+}
+
+pub fn make_combinations(n: &str, r: &str) -> Result<Result<Combinations, Refusal>, Flaw> {
+    Ok(Combinations::new(number(n)? as usize, number(r)? as usize))
+}
+
+pub fn make_replacement(
+    n: &str,
+    r: &str,
+) -> Result<Result<CombinationsWithReplacement, Refusal>, Flaw> {
+    Ok(CombinationsWithReplacement::new(number(n)? as usize, number(r)? as usize))
+}
+
+pub fn make_permutations(n: &str, r: &str) -> Result<Result<Permutations, Refusal>, Flaw> {
+    let n = number(n)? as usize;
+    let r = optional(r, "-")?.map(|r| r as usize);
+    Ok(Permutations::new(n, r))
 }
 
 // How much a call is lent.

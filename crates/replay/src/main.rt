@@ -7,11 +7,14 @@ mod adapter;
 mod enumerator;
 mod flaw;
 mod form;
+mod groupby;
+mod listing;
 mod plain;
 mod play;
 mod rule;
 mod scenario;
 mod show;
+mod tees;
 
 use std::io;
 use std::io::{BufRead, BufReader};

@@ -25,7 +25,7 @@ pub struct Player {
 // Makes one call, writes its answer, and tells whether that was the end.
 fn call<S: Source>(source: &mut S, out: &mut String) -> Result<bool, Flaw>
 where
-    S::Item: Show,
+    S::Item: Show + Drop,
     ensures unless_out_of_memory { MatchResult result (λ ended. (ended ≡ says_end (first (S.Source.ahead source.old))) × (string_bytes out.new ≡ string_bytes out.old ++ answer_line S.Item.Show.line (first (S.Source.ahead source.old)))) (λ flaw. flaw ≡ Memory) }
     ensures leaves { S.Source.ahead source.new ≡ rest (S.Source.ahead source.old) }
 {
@@ -44,7 +44,7 @@ where
 // and then the ends.
 pub fn play<S: Source>(source: &mut S, out: &mut String) -> Result<(), Flaw>
 where
-    S::Item: Show,
+    S::Item: Show + Drop,
     ensures unless_out_of_memory { MatchResult result (λ _. string_bytes out.new ≡ string_bytes out.old ++ transcript S.Item.Show.line 3 (S.Source.ahead source.old)) (λ flaw. flaw ≡ Memory) }
 {
     for _ in 0..ENDS {
@@ -61,7 +61,7 @@ pub fn play_in_pages<S: Source, R: Print>(
     out: &mut String,
 ) -> Result<(), Flaw>
 where
-    S::Item: Show,
+    S::Item: Show + Drop,
 {
     for _ in 0..ENDS {
         while !call(source, out)? {

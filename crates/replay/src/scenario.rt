@@ -66,13 +66,16 @@ impl Player {
         }
     }
 
-    // The forms of enumerators, whose last part is a list of calls.
+    // The forms of enumerators, tees and groups, whose last part is a list of calls; and of listings.
     fn play_calls(&mut self, head: &[&str], parts: &[&str]) -> Result<(), Flaw> {
         match (head, parts) {
             (["product", repeat, pools], [calls]) => self.product(repeat, pools, calls),
             (["combinations", n, r], [calls]) => self.combinations(n, r, calls),
             (["replacement", n, r], [calls]) => self.replacement(n, r, calls),
             (["permutations", n, r], [calls]) => self.permutations(n, r, calls),
+            (["tee", branches, store], [steps, calls]) => self.tee(branches, store, steps, calls),
+            (["groupby", key], [steps, calls]) => self.groupby(key, steps, calls),
+            (["listing", making @ ..], [size]) => self.listing(making, size),
             _ => Err(Flaw::Form),
         }
     }

@@ -1,1 +1,3 @@
-pub mod Rules
+pub mod Predicate
+pub mod Key
+pub mod Joining

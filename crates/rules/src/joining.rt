@@ -1,4 +1,4 @@
-ghost use Rattle.rules.specs.Rules.{larger as larger_of, sum as sum_of};
+ghost use Rattle.rules.specs.Joining.{larger as larger_of, sum as sum_of};
 ghost use Rattle.std.proofs.Common.{rules};
 
 use steps::{Fault, Joining};

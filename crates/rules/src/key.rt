@@ -1,6 +1,6 @@
-ghost use Rattle.std.specs.Prelude.{Ok, nat_eq};
-ghost use Rattle.rules.specs.Rules.{bay_and_bus, same_pair};
-ghost use Rattle.std.proofs.Common.{rules, ◌∙◌};
+ghost use Rattle.std.specs.Prelude.{Ok};
+ghost use Rattle.rules.specs.Key.{bay_and_bus};
+ghost use Rattle.std.proofs.Common.{rules};
 
 use sources::Block;
 use steps::{Fault, Keying};
@@ -14,22 +14,10 @@ impl<T: Eq + Drop> Keying<T> for Itself {
 
     ghost key = { λ _ item. Ok item };
 
-    ghost same = { T.eq };
-
     ghost origin = { Prim.search rules };
-
-    ghost reflexive = { T.Eq.laws.refl };
-
-    ghost symmetric = { λ p q e. T.Eq.laws.symm q p ∙ e };
-
-    ghost transitive = { λ p q r e f. T.Eq.laws.congr p q r e ∙ f };
 
     fn key_of(&self, item: T) -> Result<T, Fault> {
         Ok(item)
-    }
-
-    fn same_key(&self, a: T, b: T) -> bool {
-        a == b
     }
 }
 
@@ -43,22 +31,10 @@ impl Keying<Block> for Bay {
 
     ghost key = { λ _ b. Ok b.bay };
 
-    ghost same = { nat_eq };
-
     ghost origin = { Prim.search rules };
-
-    ghost reflexive = { Prim.search rules };
-
-    ghost symmetric = { Prim.search rules };
-
-    ghost transitive = { Prim.search rules };
 
     fn key_of(&self, item: Block) -> Result<u16, Fault> {
         Ok(item.bay)
-    }
-
-    fn same_key(&self, a: u16, b: u16) -> bool {
-        a == b
     }
 }
 
@@ -71,21 +47,9 @@ impl Keying<Block> for BayAndBus {
 
     ghost key = { λ _ b. Ok (bay_and_bus b) };
 
-    ghost same = { same_pair };
-
     ghost origin = { Prim.search rules };
-
-    ghost reflexive = { Prim.search rules };
-
-    ghost symmetric = { Prim.search rules };
-
-    ghost transitive = { Prim.search rules };
 
     fn key_of(&self, item: Block) -> Result<(u16, u16), Fault> {
         Ok((item.bay, item.bus))
-    }
-
-    fn same_key(&self, a: (u16, u16), b: (u16, u16)) -> bool {
-        a == b
     }
 }

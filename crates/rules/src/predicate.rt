@@ -1,4 +1,4 @@
-ghost use Rattle.rules.specs.Rules.{below, lasts};
+ghost use Rattle.rules.specs.Predicate.{below, lasts};
 ghost use Rattle.std.proofs.Common.{rules};
 
 use sources::Block;
@@ -32,6 +32,6 @@ impl Predicate<Block> for LastsAtLeast {
     ghost origin = { Prim.search rules };
 
     fn test(&self, item: Block) -> Result<bool, Fault> {
-        Ok(u32::from(item.start) + u32::from(self.minutes) <= u32::from(item.end))
+        Ok(item.lasts_at_least(self.minutes))
     }
 }

@@ -1,2 +1,2 @@
-mod Counting
-pub mod Reading
+mod RangeLemmas
+pub mod FrameLemmas

@@ -1,3 +1,5 @@
-pub mod Causes
-pub mod Ranges
+pub mod Block
+pub mod Cause
+pub mod Frame
+pub mod Range
 pub mod Records

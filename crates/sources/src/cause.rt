@@ -1,6 +1,6 @@
 ghost use Rattle.std.specs.Prelude.{◌≡◌, Some};
-ghost use Rattle.sources.specs.Causes.{cause_number, CauseOf, no_cause_text};
-ghost use Rattle.sources.specs.Records.{broken};
+ghost use Rattle.sources.specs.Cause.{cause_number, CauseOf, no_cause_text};
+ghost use Rattle.sources.specs.Frame.{broken};
 
 use std::error::Error;
 use std::fmt;
@@ -27,7 +27,7 @@ pub struct UnknownCause(pub u16);
 
 impl Cause {
     // The fault of a record that begins at this byte.
-    pub(crate) fn fault_at(self, place: usize) -> Fault
+    pub fn fault_at(self, place: usize) -> Fault
         ensures { result ≡ broken (cause_number self) place }
     {
         Fault {

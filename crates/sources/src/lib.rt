@@ -5,6 +5,7 @@
 
 mod block;
 mod cause;
+mod frame;
 mod list;
 mod range;
 mod records;
@@ -12,6 +13,7 @@ mod script;
 
 pub use block::Block;
 pub use cause::{Cause, UnknownCause};
+pub use frame::{Frames, Record, word_of};
 pub use list::List;
 pub use range::Range;
 pub use records::Records;

@@ -1,5 +1,6 @@
-ghost use Rattle.std.specs.Prelude.{◌≡◌, map};
+ghost use Rattle.std.specs.Prelude.{◌≡◌, map, []};
 ghost use Rattle.std.specs.Slice.Iter.{iter_rest};
+ghost use Rattle.steps.specs.Below.{lone};
 ghost use Rattle.steps.specs.Steps.{item};
 
 use std::slice;
@@ -24,6 +25,11 @@ impl<'a, T: Copy> Source for List<'a, T> {
 
     ghost ahead = { λ s. map item (iter_rest s.rest) };
 
+    ghost loans = { λ _. [] };
+
+    ghost bottom = { λ s. lone (map item (iter_rest s.rest)) };
+
+    #[tactic(auto, using(steps::proofs::Below::lone_drew))]
     fn next(&mut self) -> Result<Answer<T>, Fault> {
         Ok(self.rest.next().copied().into())
     }

@@ -1,5 +1,6 @@
-ghost use Rattle.std.specs.Prelude.{◌≡◌};
-ghost use Rattle.sources.specs.Ranges.{numbers, EachBelow};
+ghost use Rattle.std.specs.Prelude.{◌≡◌, []};
+ghost use Rattle.steps.specs.Below.{lone};
+ghost use Rattle.sources.specs.Range.{numbers, EachBelow};
 
 use std::ops;
 use steps::{Answer, Fault, Source};
@@ -11,7 +12,7 @@ pub struct Range {
 }
 
 impl Range {
-    #[tactic(auto, using(crate::proofs::Counting::each_below))]
+    #[tactic(auto, using(crate::proofs::RangeLemmas::each_below))]
     pub fn new(start: u32, stop: u32) -> Self
         ensures ahead { ⟦<Range as Source>⟧.ahead result ≡ numbers start stop }
         ensures law { EachBelow start stop (⟦<Range as Source>⟧.ahead result) }
@@ -28,6 +29,11 @@ impl Source for Range {
 
     ghost ahead = { λ s. numbers s.numbers.start s.numbers.end };
 
+    ghost loans = { λ _. [] };
+
+    ghost bottom = { λ s. lone (numbers s.numbers.start s.numbers.end) };
+
+    #[tactic(auto, using(steps::proofs::Below::lone_drew))]
     fn next(&mut self) -> Result<Answer<u64>, Fault> {
         Ok(self.numbers.next().map(u64::from).into())
     }

@@ -1,5 +1,6 @@
-ghost use Rattle.std.specs.Prelude.{◌≡◌, length};
+ghost use Rattle.std.specs.Prelude.{◌≡◌, length, []};
 ghost use Rattle.std.specs.Slice.Iter.{iter_rest};
+ghost use Rattle.steps.specs.Below.{lone};
 
 use std::slice;
 use steps::{Answer, Fault, Source, Step};
@@ -29,6 +30,10 @@ impl<'a, T: Copy> Source for Script<'a, T> {
     type Item = T;
 
     ghost ahead = { λ s. iter_rest s.rest };
+
+    ghost loans = { λ _. [] };
+
+    ghost bottom = { λ s. lone (iter_rest s.rest) };
 
     fn next(&mut self) -> Result<Answer<T>, Fault> {
         self.rest.next().copied().transpose().map(Answer::from)

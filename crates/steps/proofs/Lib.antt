@@ -1,1 +1,4 @@
 mod Answered
+pub mod Trace
+pub mod Below
+pub mod RunLemmas

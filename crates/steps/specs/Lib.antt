@@ -1,2 +1,5 @@
 pub mod Steps
 pub mod Refusals
+pub mod Trace
+pub mod Fault
+pub mod Below

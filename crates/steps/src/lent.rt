@@ -1,3 +1,5 @@
+ghost use Rattle.std.specs.Prelude.{◌∷◌};
+
 use crate::answer::Answer;
 use crate::fault::Fault;
 use crate::source::Source;
@@ -7,6 +9,10 @@ impl<'a, S: Source> Source for &'a mut S {
     type Item = S::Item;
 
     ghost ahead = { λ s. S.Source.ahead s.now };
+
+    ghost loans = { λ s. s.ghost_name ∷ S.Source.loans s.now };
+
+    ghost bottom = { λ s. S.Source.bottom s.now };
 
     fn next(&mut self) -> Result<Answer<S::Item>, Fault> {
         (**self).next()

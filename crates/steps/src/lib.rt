@@ -4,6 +4,7 @@
 #![tactic(auto)]
 
 mod answer;
+mod call_error;
 mod fault;
 mod lent;
 mod refusal;
@@ -12,6 +13,7 @@ mod run;
 mod source;
 
 pub use answer::{Answer, Step};
+pub use call_error::CallError;
 pub use fault::Fault;
 pub use refusal::Refusal;
 pub use rule::{Joining, Keying, Predicate};

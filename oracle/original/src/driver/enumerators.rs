@@ -1,5 +1,5 @@
 //! Enumerators. The original takes its pools at the making and answers elements, so it is made twice: over the
-//! positions, whose rows are the places, and over the elements. Both are stepped together.
+//! positions, whose rows are the places, and over the elements. Both are stepped together. A listing is of places alone.
 
 use super::scenario::{Enumeration, Lent};
 use super::{buffer, number, stopped, Answer, Player, Stopped, LARGEST, UNASKED};
@@ -34,7 +34,44 @@ impl Enumeration {
     }
 }
 
+/// How many rows a listing has at the most, and how many bytes its buffer has for each place and for the last line.
+const LISTED_ROWS: usize = 100;
+const PLACE_BYTES: u64 = 4;
+const LAST_LINE_BYTES: u64 = 5;
+
 impl Player {
+    pub(super) fn play_listing(
+        &self,
+        making: &Enumeration,
+        size: Option<u64>,
+        out: &mut String,
+    ) -> Result<(), Stopped> {
+        if !making.can_be_run() {
+            return Err(Stopped("skipped: too large to run".to_owned()));
+        }
+        let row_bytes = (PLACE_BYTES * making.width() as u64).max(1);
+        if size.is_some_and(|size| size < LISTED_ROWS as u64 * row_bytes + LAST_LINE_BYTES) {
+            out.push_str(UNASKED);
+            return Ok(());
+        }
+        let rows = self.enumerator(making, |_| 0)?;
+        let mut lines = vec![];
+        while lines.len() < LISTED_ROWS {
+            let Some(row) = self.row(&rows)? else { break };
+            let places: Vec<String> = row.iter().map(u64::to_string).collect();
+            lines.push(places.join(" "));
+        }
+        let more = lines.len() == LISTED_ROWS && self.row(&rows)?.is_some();
+        lines.push(if more { "more" } else { "end" }.to_owned());
+        let written: usize = lines.iter().map(|line| line.len() + 1).sum();
+        out.push_str(&format!("listed {written}\n"));
+        for line in lines {
+            out.push_str(&format!("| {line}\n"));
+        }
+        out.push_str("rest kept\n");
+        Ok(())
+    }
+
     pub(super) fn play_enumerator(
         &self,
         making: &Enumeration,

@@ -37,7 +37,7 @@ pub const JOINING_FAULT: Fault = Fault {
 /// In the place of an answer: the original cannot be asked, since it has no lent pools, buffers, stores or numbers.
 const UNASKED: &str = "unasked\n";
 
-/// What a run holds: places of a row, elements of a pool and places of a store.
+/// What a run holds: places of a row, elements of a pool, places of a store and branches made at once.
 const LARGEST: u64 = 1000;
 
 pub struct Player {
@@ -77,6 +77,7 @@ impl Player {
             Scenario::Source(name) => Err(Stopped(format!("skipped: itertools has no {name}"))),
             Scenario::Adapter(adapter) => self.play_adapter(adapter, out),
             Scenario::Enumerator(making, calls) => self.play_enumerator(making, calls, out),
+            Scenario::Listing(making, size) => self.play_listing(making, *size, out),
             Scenario::Tee(making, calls) => self.play_tee(making, calls, out),
             Scenario::Groups(making, calls) => self.play_groups(making, calls, out),
         }

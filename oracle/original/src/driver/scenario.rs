@@ -6,6 +6,9 @@ use std::str::FromStr;
 /// The line is not of a form.
 pub struct Bad;
 
+/// The bytes of the longest buffer that a listing is lent.
+const LONGEST_BUFFER: u64 = 32_768;
+
 type Read<T> = Result<T, Bad>;
 
 #[derive(Clone, Copy)]
@@ -28,6 +31,8 @@ pub enum Scenario {
     Source(&'static str),
     Adapter(Adapter),
     Enumerator(Enumeration, Vec<Option<Lent>>),
+    /// With the size of the buffer, none for the least.
+    Listing(Enumeration, Option<u64>),
     Tee(Tee, Vec<Branch>),
     Groups(Groups, Vec<Group>),
 }
@@ -115,6 +120,9 @@ pub fn read(line: &[u8]) -> Read<Scenario> {
         (["product" | "combinations" | "replacement" | "permutations", ..], [calls]) => Ok(
             Scenario::Enumerator(enumeration(&words)?, list(calls, ' ', lent)?),
         ),
+        (["listing", making @ ..], [size]) => {
+            Ok(Scenario::Listing(enumeration(making)?, buffer_size(size)?))
+        }
         (["tee", branches, store], [ahead, calls]) => Ok(Scenario::Tee(
             tee(branches, store, ahead)?,
             list(calls, ' ', branch)?,
@@ -199,7 +207,8 @@ fn enumeration(words: &[&str]) -> Read<Enumeration> {
         }
         "replacement" => "combinations_with_replacement",
         "combinations" => "combinations",
-        _ => "permutations",
+        "permutations" => "permutations",
+        _ => return Err(Bad),
     };
     let r = if class == "permutations" {
         optional(second, "-")?
@@ -225,6 +234,13 @@ fn optional(word: &str, absent: &str) -> Read<Option<u64>> {
         Ok(None)
     } else {
         number(word).map(Some)
+    }
+}
+
+fn buffer_size(part: &str) -> Read<Option<u64>> {
+    match optional(part, "-")? {
+        Some(size) if size > LONGEST_BUFFER => Err(Bad),
+        size => Ok(size),
     }
 }
 

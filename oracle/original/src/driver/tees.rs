@@ -8,7 +8,7 @@ use crate::convert::ToPyObject;
 use crate::function::FuncArgs;
 use crate::object::{payload_of, PyObjectRef};
 
-/// As many branches as there may be.
+/// A tee of so many branches is not asked for a copy.
 const BRANCHES: usize = 16;
 
 /// A branch, and how many items were answered to it and to what it was copied from.
@@ -24,13 +24,7 @@ impl Player {
         calls: &[Branch],
         out: &mut String,
     ) -> Result<(), Stopped> {
-        if tee
-            .branches
-            .is_some_and(|branches| branches > BRANCHES as u64)
-        {
-            return Err(Stopped("skipped: too many branches".to_owned()));
-        }
-        if tee.store > LARGEST {
+        if tee.branches.unwrap_or(0).max(tee.store) > LARGEST {
             return Err(Stopped("skipped: too large to run".to_owned()));
         }
         let object = Source::of_numbers(&tee.steps, &self.vm);

@@ -1,10 +1,8 @@
-use Rattle.std.proofs.Common.{◌≡◌, take, drop}
-use Rattle.rows.specs.Runs.{Leads}
-use Rattle.enumerators.specs.Memories.{memories}
+use Rattle.steps.proofs.Trace.{Logged}
+use Rattle.row_laws.specs.History.{Transition}
+use Rattle.enumerators.specs.History.{memory}
 use Rattle.enumerators.proofs.history.run.Given as goal
 
 abbrev pub invariant-loop-call : goal.invariant-loop-call
 invariant-loop-call g l =
-    let E = g.E.Enumerator in
-    (drop l.call-index l.calls ≡ drop l.call-index l.initial.calls)
-    × Leads E.ahead E.size E.width E.starts l.initial.enumerator (memories (take l.call-index l.initial.calls)) (memories (take l.call-index l.calls)) l.enumerator
+    Logged (Transition g.E.Enumerator.shown) memory l.initial.enumerator l.initial.calls l.calls l.call-index l.enumerator

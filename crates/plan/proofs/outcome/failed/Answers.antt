@@ -1,8 +1,8 @@
 use Rattle.std.proofs.Common.{rules, ◌≡◌, ℕ, ◌+◌, length, take, get_or, string_bytes, codes, Bor, List, [], sym, ap, ◌∙◌, length-append, arith}
 use Rattle.std.specs.List.{fold}
 use Rattle.std.proofs.lemmas.List.Sums.{fold_more}
-use Rattle.plan.specs.Verdicts.{and_reason, mark}
-use Rattle.plan.proofs.Verdicts.{comma_after, with_more, with_none}
+use Rattle.plan.specs.Outcome.{and_reason, mark}
+use Rattle.plan.proofs.OutcomeLemmas.{comma_after, with_more, with_none}
 use Rattle.plan.proofs.outcome.failed.Goals as goal
 use Rattle.plan.proofs.outcome.failed.Goals.{then-count-ne0+in_ok-write, else-count-ne0}
 

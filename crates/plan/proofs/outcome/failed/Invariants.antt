@@ -1,9 +1,9 @@
 use Rattle.std.proofs.Common.{◌≡◌, ◌≤◌, length, take, string_bytes, codes}
 use denote.Text.{Utf8}
 use denote.Shadow.{shadow}
-use Rattle.plan.specs.Verdicts.{mark}
+use Rattle.plan.specs.Outcome.{mark}
 use Rattle.std.specs.List.{fold}
-use Rattle.plan.specs.Verdicts.{and_reason}
+use Rattle.plan.specs.Outcome.{and_reason}
 use Rattle.plan.proofs.outcome.failed.Given as goal
 
 -- the reasons so far, and how the next one is set off from them

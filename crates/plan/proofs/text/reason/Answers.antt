@@ -1,4 +1,4 @@
-use Rattle.plan.proofs.Reasons.{no_cause}
+use Rattle.plan.proofs.TextLemmas.{no_cause}
 use Rattle.plan.proofs.text.reason.Goals as goal
 
 pub returns-in-Err : goal.returns-in-Err

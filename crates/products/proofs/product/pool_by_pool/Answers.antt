@@ -1,5 +1,5 @@
 use Rattle.std.proofs.Common.{refl}
-use Rattle.rows.proofs.Pools.{pool_by_pool}
+use Rattle.row_laws.proofs.Pools.{pool_by_pool}
 use Rattle.products.proofs.product.pool_by_pool.Goals as goal
 
 pub returns : goal.returns

@@ -1,7 +1,9 @@
 use Rattle.std.proofs.Common.{◌≡◌, true, Some, sym, refl, ap, ◌∙◌}
 use Rattle.steps.specs.Steps.{first, rest}
+use Rattle.std.proofs.Common.{rules}
+use Rattle.steps.proofs.Below.{drew_none, quiet_same, drew_as, drew_at, drew_on, drew_quiet, quiet_on}
 use Rattle.laws.specs.Islice.{over, slices}
-use Rattle.laws.proofs.Slices.{over_gives, over_after}
+use Rattle.laws.proofs.Islice.{over_gives, over_after, slice_call}
 use Rattle.adapters.proofs.islice.IsliceSource.next.Goals as goal
 
 pub returns-in_default : goal.returns-in_default
@@ -11,7 +13,16 @@ returns-in_default g c =
     let o : over s.stop s.next s.cur ≡ true = ap (λ n. over s.stop n s.cur) c.in_default.is in
     let e = over_gives s.stop s.step s.next s.cur ss o in
     let a = over_after s.stop s.step s.next s.cur ss o in
-    record { gives = sym (ap first e); leaves = e ∙ sym (ap rest e); below = sym (ap (λ r. r.left) a); counts = (sym (ap (λ r. r.next) a), sym (ap (λ r. r.cur) a)); keeps = (refl, refl) }
+    record {
+      gives = sym (ap first e);
+      leaves = e ∙ sym (ap rest e);
+      below = sym (ap (λ r. r.left) a);
+      counts = (sym (ap (λ r. r.next) a), sym (ap (λ r. r.cur) a));
+      keeps = (refl, refl);
+      keeps_loans = refl;
+      draws = drew_none _ _ (quiet_same _);
+      follows = slice_call s.stop s.stop s.step s.step s.next s.next s.cur s.cur ss ss _ (sym (ap first e)) (sym (ap (λ r. r.left) a)) (sym (ap (λ r. r.next) a)) (sym (ap (λ r. r.cur) a)) refl refl;
+    }
 
 pub returns : goal.returns
 returns g c =
@@ -22,12 +33,36 @@ returns g c =
     let o : over s.stop (Some n) s.cur ≡ true = sym c.loop-self-test.ensures in
     let e = over_gives s.stop s.step (Some n) s.cur ss o in
     let a = over_after s.stop s.step (Some n) s.cur ss o in
-    let e0 = sym i.3 ∙ e in
-    let a0 = sym i.4 ∙ a in
+    let e0 = sym i.ahead ∙ e in
+    let a0 = sym i.after ∙ a in
     record {
       gives = sym (ap first e0);
-      leaves = ap (λ m. slices s.stop s.step m s.cur ss) i.0 ∙ e ∙ sym (ap rest e0);
+      leaves = ap (λ m. slices s.stop s.step m s.cur ss) i.next ∙ e ∙ sym (ap rest e0);
       below = sym (ap (λ r. r.left) a0);
-      counts = (i.0 ∙ sym (ap (λ r. r.next) a0), sym (ap (λ r. r.cur) a0));
-      keeps = (i.1, i.2);
+      counts = (i.next ∙ sym (ap (λ r. r.next) a0), sym (ap (λ r. r.cur) a0));
+      keeps = (i.stop, i.step);
+      keeps_loans = i.loans;
+      draws = drew_none _ _ i.drawn;
+      follows = slice_call c.args.self.now.stop s.stop c.args.self.now.step s.step c.args.self.now.next s.next c.args.self.now.cur s.cur (g.S.Source.ahead c.args.self.now.source) ss _
+          (sym (ap first e0)) (sym (ap (λ r. r.left) a0)) (i.next ∙ sym (ap (λ r. r.next) a0)) (sym (ap (λ r. r.cur) a0)) i.stop i.step;
     }
+
+pub returns-in_err-item-clause-draws : goal.returns-in_err-item-clause-draws
+returns-in_err-item-clause-draws g c = drew_as _ _ _ _ (drew_on _ _ _ _ c.loop-self.invariant.drawn c.in_err-item.ensures.draws) (search rules)
+
+pub returns-in_default-2-clause-draws : goal.returns-in_default-2-clause-draws
+returns-in_default-2-clause-draws g c = drew_on _ _ _ _ c.loop-self.invariant.drawn c.in_ok-item.ensures.draws
+
+pub returns-in-loop-self-clause-draws : goal.returns-in-loop-self-clause-draws
+returns-in-loop-self-clause-draws g c = drew_at _ _ _ _ (drew_on _ _ _ _ c.loop-self.invariant.drawn c.in_ok-item.ensures.draws) (search rules)
+
+pub loop-self-preserved : goal.loop-self-preserved
+loop-self-preserved g c = record {
+  next = search rules;
+  stop = search rules;
+  step = search rules;
+  ahead = search rules;
+  after = search rules;
+  loans = search rules;
+  drawn = quiet_on _ _ _ c.loop-self.invariant.drawn (drew_quiet _ _ c.in_ok-item.ensures.draws);
+}

@@ -1,13 +1,14 @@
-use Rattle.std.proofs.Common.{◌≡◌, ℕ, ◌-◌, ◌<◌, ◌≤◌, List, [], length, get_or, take, Option, Some, None, MatchOption, option_map, subst, arith, rules}
+use Rattle.std.proofs.Common.{◌≡◌, ◌∙◌, ap, ◌∷◌, ℕ, ◌-◌, ◌<◌, ◌≤◌, List, [], length, get_or, Option, Some, None, MatchOption, subst, arith, rules}
 use Rattle.std.specs.Option.{ForSome}
 use Rattle.std.proofs.lemmas.Option.{same_Some}
-use Rattle.rows.specs.Lawful.{AllAhead}
-use Rattle.rows.specs.Lists.{ahead_from}
-use Rattle.rows.specs.Successor.{First}
-use Rattle.rows.specs.Climbs.{ClimbingRow}
-use Rattle.rows.proofs.Climbing.{low_first, no_row}
-use Rattle.rows.specs.Listed.{Listed}
-use Rattle.rows.proofs.Standing.{all_ahead}
+use Rattle.row_laws.specs.Calls.{Shown, refusal_of_making, controller}
+use Rattle.row_laws.specs.Makings.{Made, one_pool_making}
+use Rattle.row_laws.specs.Standing.{one_pool}
+use Rattle.row_laws.specs.Successor.{First}
+use Rattle.row_laws.specs.Climbs.{ClimbingRow}
+use Rattle.row_laws.proofs.Climbing.{low_first, no_row}
+use Rattle.row_laws.specs.Listed.{Listed}
+use Rattle.row_laws.proofs.Standing.{made_one}
 use Rattle.combinations.proofs.state.Climbing.new.Goals as goal
 
 -- what `first_row` answers, where there are `most` places in all
@@ -35,12 +36,12 @@ returns g c =
     let K = g.K.Climb in
     let met = g.met.K.Climb in
     let made = c.in_ok-choice.ensures in
-    let ahead = ahead_from (option_map (take r) c.first_row.result) (K.rows n r) in
-    let all : AllAhead (K.lawful n r) (K.rows n r) ahead = all_ahead (K.lawful n r) r (K.rows n r) (met.listed n r) c.first_row.result
-    (begins n r K.above 64 choice.short (met.listed n r) (met.climbs n r) met.from_zero c.first_row.result c.first_row.ensures) in (
-      made.0,
-      made.1,
-      made.2,
-      climbs_first n r K.above 64 choice.short met.unfalling c.first_row.result c.first_row.ensures,
-      subst (λ z. AllAhead (K.lawful c.args.n z) (K.rows c.args.n z) ahead) made.2 (subst (λ z. AllAhead (K.lawful z r) (K.rows z r) ahead) made.1 all),
+    let at = c.first_row.result in
+    let v : Shown = one_pool (K.rows n r) n r at in
+    let makable : refusal_of_making controller (n ∷ []) r ≡ None = ap (λ z. refusal_of_making controller (z ∷ []) r) made.1 ∙ ap (refusal_of_making controller (c.args.n ∷ [])) made.2 ∙ made.0 in
+    let all : Made controller (K.lawful n r) (one_pool_making (K.rows n r) n r 0) v =
+    made_one (K.lawful n r) r (K.rows n r) (met.listed n r) controller n at makable (begins n r K.above controller.places choice.short (met.listed n r) (met.climbs n r) met.from_zero at c.first_row.ensures) in (
+      climbs_first n r K.above controller.places choice.short met.unfalling at c.first_row.ensures,
+      subst (λ z. Made controller (K.lawful c.args.n z) (one_pool_making (K.rows c.args.n z) c.args.n z 0) v) made.2
+          (subst (λ z. Made controller (K.lawful z r) (one_pool_making (K.rows z r) z r 0) v) made.1 all),
     )

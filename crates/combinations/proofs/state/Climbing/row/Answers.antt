@@ -1,8 +1,8 @@
 use Rattle.std.proofs.Common.{◌≡◌, ◌∷◌, Some, rules, sym, ap, ◌∙◌}
-use Rattle.rows.specs.Calls.{other_rows}
-use Rattle.rows.proofs.Standing.{shown}
-use Rattle.rows.proofs.Calling.{part_front}
-use Rattle.combinations.specs.Standing.{rows_ahead}
+use Rattle.row_laws.specs.Calls.{other_rows}
+use Rattle.row_laws.proofs.Standing.{shown}
+use Rattle.row_laws.proofs.Calling.{part_front}
+use Rattle.combinations.specs.Standing.{shown_by}
 use Rattle.combinations.proofs.state.Climbing.row.Goals as goal
 
 pub returns : goal.returns
@@ -15,4 +15,4 @@ returns g c =
     let K = g.K.Climb in
     let law = g.met.K.Climb.taken n r xs (s.room xs is) (c.requires xs is) in
     shown (K.lawful n r) r (K.rows n r) (g.met.K.Climb.listed n r) s.indices xs is law
-    ∙ ap (λ row. row ∷ other_rows (rows_ahead K.rows s)) (sym (part_front r xs))
+    ∙ ap (λ row. row ∷ other_rows (shown_by K.rows s).ahead) (sym (part_front r xs))

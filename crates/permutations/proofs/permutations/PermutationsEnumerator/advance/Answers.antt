@@ -1,40 +1,34 @@
-use Rattle.std.proofs.Common.{refl, option_map, arith}
-use Rattle.rows.specs.Lawful.{PermutationRow}
-use Rattle.rows.specs.Lists.{permutation_rows}
-use Rattle.rows.proofs.Families.{permutations_listed}
-use Rattle.rows.proofs.Standing.{stepped, stopped}
-use Rattle.permutations.proofs.Rows.{at_row, its_row, not_over}
+use Rattle.std.proofs.Common.{◌≤◌, length, ap, option_map, arith}
+use Rattle.row_laws.proofs.Permutations.{cycles_stepped, cycles_ended, cycles_stood}
 use Rattle.permutations.proofs.permutations.PermutationsEnumerator.advance.Goals as goal
 
-pub turn-requires-clause-cycling : goal.turn-requires-clause-cycling
-turn-requires-clause-cycling c = c.args.self.now.cycling c.in-Some.turning c.in-Some.is
+pub step-requires-clause-cycling : goal.step-requires-clause-cycling
+step-requires-clause-cycling c = c.args.self.now.cycling c.in-Some.at c.in-Some.is
 
-pub returns-then-not-turn : goal.returns-then-not-turn
-returns-then-not-turn c =
-    let s = c.args.self.now in
-    let t = c.in-Some.turning in
-    let n = s.choice.n in
-    let r = s.choice.r in
+pub returns-then-not-step : goal.returns-then-not-step
+returns-then-not-step c =
+    let e = c.args.self.now in
+    let s = e.standing in
+    let t = c.in-Some.at in
+    let at = option_map (λ z. z.indices) s.cycles in
+    let is = ap (option_map (λ z. z.indices)) c.in-Some.is in
+    let room : s.choice.n ≤ length t.indices = omega (arith, t.whole, s.choice.few) in
     record {
-      rows = stopped (PermutationRow n r) r (permutation_rows n r) (permutations_listed n r) (option_map (λ z. z.indices) s.turning) t.indices (at_row s t c.in-Some.is)
-          (omega (arith, t.whole, s.choice.short)) (its_row s t c.in-Some.is) c.if-not-turn.ensures;
-      sized = refl;
-      wide = refl;
-      starting = refl;
-      rests = not_over s t c.in-Some.is;
+      shows = cycles_ended s.choice.n s.choice.r at t.indices t.cycles is (e.fitting t c.in-Some.is) room (e.cycling t c.in-Some.is)
+          c.step.new.indices c.step.new.cycles c.if-not-step.ensures.stepped;
+      rests = cycles_stood s.choice.n s.choice.r at t.indices t.cycles is (e.fitting t c.in-Some.is) room (e.cycling t c.in-Some.is);
     }
 
-pub returns-else-not-turn : goal.returns-else-not-turn
-returns-else-not-turn c =
-    let s = c.args.self.now in
-    let t = c.in-Some.turning in
-    let n = s.choice.n in
-    let r = s.choice.r in
+pub returns-else-not-step : goal.returns-else-not-step
+returns-else-not-step c =
+    let e = c.args.self.now in
+    let s = e.standing in
+    let t = c.in-Some.at in
+    let at = option_map (λ z. z.indices) s.cycles in
+    let is = ap (option_map (λ z. z.indices)) c.in-Some.is in
+    let room : s.choice.n ≤ length t.indices = omega (arith, t.whole, s.choice.few) in
     record {
-      rows = stepped (PermutationRow n r) r (permutation_rows n r) (permutations_listed n r) (option_map (λ z. z.indices) s.turning) t.indices c.turn.new.self.indices (at_row s t c.in-Some.is)
-          (omega (arith, t.whole, s.choice.short)) (omega (arith, c.turn.new.self.whole, s.choice.short)) (its_row s t c.in-Some.is) c.if-not-turn.ensures.1;
-      sized = refl;
-      wide = refl;
-      starting = refl;
-      rests = not_over s t c.in-Some.is;
+      shows = cycles_stepped s.choice.n s.choice.r at t.indices t.cycles is (e.fitting t c.in-Some.is) room (e.cycling t c.in-Some.is)
+          c.step.new.indices c.step.new.cycles c.if-not-step.ensures.long c.if-not-step.ensures.stepped;
+      rests = cycles_stood s.choice.n s.choice.r at t.indices t.cycles is (e.fitting t c.in-Some.is) room (e.cycling t c.in-Some.is);
     }

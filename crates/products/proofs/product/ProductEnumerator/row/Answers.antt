@@ -1,11 +1,11 @@
 use Rattle.std.proofs.Common.{◌∷◌, take, option_map, sym, ap, ◌∙◌}
-use Rattle.rows.specs.Lists.{tuples, ahead_from}
-use Rattle.rows.specs.Calls.{other_rows}
-use Rattle.rows.specs.Carries.{stands_at}
-use Rattle.rows.proofs.Order.{Fitting}
-use Rattle.rows.proofs.Standing.{shown}
-use Rattle.rows.proofs.Calling.{part_front}
-use Rattle.rows.proofs.Carries.{over_none, going, row_fits, tuples_taken}
+use Rattle.row_laws.specs.Lists.{tuples, ahead_from}
+use Rattle.row_laws.specs.Calls.{other_rows}
+use Rattle.row_laws.specs.Carries.{stands_at}
+use Rattle.row_laws.proofs.Order.{Fitting}
+use Rattle.row_laws.proofs.Standing.{shown}
+use Rattle.row_laws.proofs.Calling.{part_front}
+use Rattle.row_laws.proofs.Carries.{over_none, going, row_fits, tuples_taken}
 use Rattle.products.proofs.product.ProductEnumerator.row.Goals as goal
 
 pub returns-then-is_over : goal.returns-then-is_over

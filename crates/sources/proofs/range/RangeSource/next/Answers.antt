@@ -1,4 +1,4 @@
-use Rattle.sources.proofs.Counting.{numbers_left}
+use Rattle.sources.proofs.RangeLemmas.{numbers_left}
 use Rattle.sources.proofs.range.RangeSource.next.Goals as goal
 
 pub returns-clause-leaves : goal.returns-clause-leaves

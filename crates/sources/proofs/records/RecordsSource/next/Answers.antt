@@ -1,25 +1,38 @@
-use Rattle.std.proofs.Common.{◌-◌, ◌<◌, ◌≤◌, length, take, Err, sym, ap, ◌∙◌, arith, rules}
-use Rattle.steps.specs.Steps.{answer, first, rest}
-use Rattle.sources.specs.Records.{record_step}
-use Rattle.sources.proofs.Reading.{tail_at, behind, from_tail, nothing_left, header_cut, whole_record, next_record}
+use Rattle.std.proofs.Common.{◌≡◌, ◌<◌, Err, arith, length, drop, refl, ap, sym, ◌∙◌, rules}
+use Rattle.steps.specs.Steps.{first, rest}
+use Rattle.steps.proofs.Below.{lone_drew}
+use Rattle.sources.specs.Frame.{Framed}
+use Rattle.sources.specs.Records.{record_step, records_from}
+use Rattle.sources.proofs.FrameLemmas.{record_ahead, cause_ahead, nothing_left}
 use Rattle.sources.proofs.records.RecordsSource.next.Goals as goal
 
-pub returns-in_default : goal.returns-in_default
-returns-in_default c =
-    let bs = c.args.self.now.bytes.now in
-    let at = c.args.self.now.at in
-    let lo : 0 < length (tail_at bs at) = search rules in
-    let hi : length (tail_at bs at) < 4 = search rules in
-    let e = from_tail bs at ∙ header_cut at (tail_at bs at) lo hi in
-    record { gives = ap Err c.fault_at.ensures ∙ sym (ap first e); leaves = nothing_left bs (length bs) (omega arith) ∙ sym (ap rest e) }
+pub returns-in_err-record-clause-draws : goal.returns-in_err-record-clause-draws
+returns-in_err-record-clause-draws c =
+    let bs = c.args.self.now.frames.bytes.now in
+    let at = c.args.self.now.frames.at in
+    let next = c.take.new.self.at in
+    let faulty = c.in_err-record.ensures.faulty in
+    let more : at < length bs = search rules in
+    let e = cause_ahead record_step bs at faulty.0.0 more faulty.0.2 in
+    let is : c.from_residual.result ≡ Err c.in_err-record.field-0.0 = search rules in
+    lone_drew (records_from bs at) _ c.from_residual.result
+    (is ∙ ap Err faulty.0.1 ∙ sym (ap first e))
+    (ap (λ b. records_from b.now next) c.take.ensures.bytes ∙ nothing_left record_step bs next (omega (arith, faulty.1)) ∙ sym (ap rest e))
 
-pub returns : goal.returns
-returns c =
-    let bs = c.args.self.now.bytes.now in
-    let at = c.args.self.now.at in
-    let lo : 4 ≤ length (tail_at bs at) = search rules in
-    let e = from_tail bs at ∙ whole_record at c.word_of-len.result (tail_at bs at) lo c.word_of-len.ensures c.if-rest-len.false in
-    record {
-      gives = c.read_block.ensures ∙ ap (λ k. answer (record_step at k (take (c.word_of-len.result - 0) (behind 4 (tail_at bs at))))) c.word_of.ensures ∙ sym (ap first e);
-      leaves = sym (ap rest e ∙ next_record bs at c.word_of-len.result);
-    }
+pub returns-clause-leaves : goal.returns-clause-leaves
+returns-clause-leaves c =
+    let bs = c.args.self.now.frames.bytes.now in
+    let at = c.args.self.now.frames.at in
+    let next = c.take.new.self.at in
+    let r = c.in_ok-record.record in
+    let one : Framed = record { kind = r.kind; payload = r.payload.now; behind = drop next bs } in
+    let taken = c.in_ok-record.ensures.taken in
+    let more : at < length bs = search rules in
+    ap (λ b. records_from b.now next) c.take.ensures.bytes ∙ sym (ap rest (record_ahead record_step bs at next one more taken.1 refl taken.2))
+
+pub returns-clause-draws : goal.returns-clause-draws
+returns-clause-draws c =
+    let bs = c.args.self.now.frames.bytes.now in
+    let at = c.args.self.now.frames.at in
+    let gives : c.map.result ≡ first (records_from bs at) = search rules in
+    lone_drew (records_from bs at) _ c.map.result gives (returns-clause-leaves c)

@@ -1,0 +1,3 @@
+pub mod GroupBy
+pub mod Grouper
+pub mod History

@@ -1,0 +1,2 @@
+pub mod JobLemmas
+pub mod AnswerLaws

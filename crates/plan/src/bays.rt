@@ -1,0 +1,112 @@
+ghost use Rattle.std.specs.Prelude.{◌≡◌, ℕ, None, Some, IfOk, OnOk, nat_eq};
+ghost use Rattle.std.specs.HashMap.{get};
+ghost use Rattle.plan.specs.Bays.{after, beside, descent, laid_of, nothing_yet, one_further};
+
+use crate::seam::{Joint, Seam};
+use sources::Block;
+use std::alloc::{AllocError, Global};
+use std::collections::HashMap;
+
+// How a bay stands: its last block so far, and the latest end of its blocks so far.
+#[derive(Clone, Copy)]
+pub struct Standing {
+    pub last: Block,
+    pub until: u16,
+}
+
+// What one more block is laid beside: the block before it in the plan, where that is at a higher
+// bay, and the block before it of its bay.
+#[derive(Clone, Copy)]
+pub struct Laid {
+    pub descent: Option<Joint>,
+    pub pair: Option<Joint>,
+}
+
+// How the bays of a plan stand after some of its blocks. It holds an entry for each bay and no
+// block more.
+#[derive(Drop)]
+pub struct Bays {
+    pub last: Option<Block>,
+    pub standings: HashMap<u16, Standing>,
+}
+
+impl Standing {
+    // How the bay stands with one more block.
+    fn after(before: Option<Standing>, block: Block) -> Standing
+        ensures { result ≡ after before block }
+    {
+        match before {
+            None => Standing {
+                last: block,
+                until: block.end,
+            },
+            Some(standing) => Standing {
+                last: block,
+                until: if standing.until < block.end {
+                    block.end
+                } else {
+                    standing.until
+                },
+            },
+        }
+    }
+
+    // The last block and the next one of the bay.
+    fn beside(before: Option<Standing>, block: Block) -> Option<Joint>
+        ensures { result ≡ beside before block }
+    {
+        let Standing { last, until } = before?;
+        Some(Joint {
+            first: last,
+            second: block,
+            until,
+            seam: Seam::from(until, block),
+        })
+    }
+}
+
+// A block beside the one before it in the plan, where that is at a higher bay.
+fn descent_from(before: Option<Block>, block: Block) -> Option<Joint>
+    ensures { result ≡ descent before block }
+{
+    match before {
+        Some(first) if block.bay < first.bay => Some(Joint {
+            first,
+            second: block,
+            until: first.end,
+            seam: Seam::BayOutOfOrder,
+        }),
+        _ => None,
+    }
+}
+
+impl Bays {
+    pub fn new(heap: Global) -> Bays
+        ensures first { result.last ≡ None }
+        ensures empty { (bay : ℕ) → get nat_eq result.standings bay ≡ nothing_yet bay }
+    {
+        Bays {
+            last: None,
+            standings: HashMap::new(heap),
+        }
+    }
+
+    // Lays one more block beside those before it.
+    pub fn lay(&mut self, block: Block) -> Result<Laid, AllocError>
+        ensures laid { IfOk result (λ l.
+            l ≡ laid_of self.old.last (get nat_eq self.old.standings block.bay) block) }
+        ensures last { OnOk result (self.new.last ≡ Some block) }
+        ensures stands { OnOk result ((bay : ℕ) → get nat_eq self.new.standings bay
+            ≡ one_further (get nat_eq self.old.standings) block bay) }
+    {
+        let before = self.standings.get(&block.bay).copied();
+        self.standings
+            .insert(block.bay, Standing::after(before, block))?;
+        let descent = descent_from(self.last, block);
+        self.last = Some(block);
+        Ok(Laid {
+            descent,
+            pair: Standing::beside(before, block),
+        })
+    }
+}

@@ -1,0 +1,66 @@
+ghost use Rattle.std.specs.Prelude.{◌≡◌, ◌↔◌, ℕ, List, IsTrue, IfOk, OnOk, IfSome};
+ghost use Rattle.std.specs.Io.KnownBytes.{Appends};
+ghost use Rattle.sources.specs.Records.{records_from};
+ghost use Rattle.plan.specs.Pass.{Passes};
+ghost use Rattle.plan.specs.Account.{all_clear};
+ghost use Rattle.plan.specs.Outcome.{report_text, Tells};
+
+use crate::account::Account;
+use crate::outcome::report;
+use std::alloc::Global;
+use std::error::Error;
+use std::io::{Read, Write};
+use std::{fmt, io};
+
+/// Why there is no report of a plan: it could not be read, or what is to be said of it not be
+/// written. Want of memory is the one before the plan was read to its end, and the other from then
+/// on.
+#[derive(Debug, Drop)]
+pub enum Unreported {
+    Unread(io::Error),
+    Unwritten(io::Error),
+}
+
+impl fmt::Display for Unreported {
+    fn fmt<W: fmt::Write>(&self, f: &mut fmt::Formatter<W>) -> fmt::Result {
+        match self {
+            Unreported::Unread(error) => write!(f, "the plan cannot be read: {error}"),
+            Unreported::Unwritten(error) => write!(f, "the report cannot be written: {error}"),
+        }
+    }
+}
+
+impl Error for Unreported {}
+
+// All that a reader has left.
+fn read_whole<R: Read>(heap: Global, input: &mut R) -> io::Result<Vec<u8>>
+    ensures { IfOk result (λ v. IfSome (R.remaining input.old) (λ bytes. v.items ≡ bytes)) }
+{
+    let mut bytes = Vec::new(heap);
+    input.read_to_end(&mut bytes)?;
+    Ok(bytes)
+}
+
+/// Reads a plan to its end, and reports it under a name. All that the program does with a plan is
+/// this call.
+pub fn report_from<R: Read, W: Write>(
+    heap: Global,
+    out: &mut W,
+    name: &str,
+    input: &mut R,
+) -> Result<Account, Unreported>
+    ensures verdict { IfOk result (λ a. IfSome (R.remaining input.old) (λ bytes.
+        IsTrue (all_clear a) ↔ Passes (records_from bytes 0))) }
+    ensures text { OnOk result (IfSome (R.remaining input.old) (λ bytes.
+        Appends (W.contents out.old) (W.contents out.new) (report_text name.now bytes))) }
+    ensures law { OnOk result (IfSome (R.remaining input.old) (λ bytes. (text : List ℕ)
+        × Appends (W.contents out.old) (W.contents out.new) text × Tells name.now bytes text)) }
+{
+    match read_whole(heap, input) {
+        Err(error) => Err(Unreported::Unread(error)),
+        Ok(bytes) => match report(heap, out, name, bytes.as_slice()) {
+            Err(error) => Err(Unreported::Unwritten(error)),
+            Ok(account) => Ok(account),
+        },
+    }
+}

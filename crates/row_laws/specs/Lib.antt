@@ -1,0 +1,14 @@
+pub mod Lawful
+pub mod Lists
+pub mod Listed
+pub mod Calls
+pub mod Successor
+pub mod Cycles
+pub mod Raised
+pub mod Climbs
+pub mod Carries
+pub mod Makings
+pub mod History
+pub mod Written
+pub mod Standing
+pub mod Listing

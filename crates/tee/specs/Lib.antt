@@ -1,0 +1,2 @@
+pub mod Tee
+pub mod History

@@ -80,19 +80,21 @@ class Loops:
                 yield target
 
     def function(self, job):
-        """The name of the function that plays a job."""
+        """The name of the function that plays a job, if it is not laid into its caller."""
         words = job.split(" ")
         if len(words) == 4:
             return f"bench::rows::{words[0]}"
         for name in self.called(f"bench::items::over_{words[0]}s"):
             if name.startswith(f"bench::items::{words[1]}::"):
                 return name
-        raise SystemExit(f"bench/run: no function plays: {job}")
+        return None
 
     def note(self, job):
         """What to note of a job in the table."""
         rows = len(job.split(" ")) == 4
         name = self.function(job)
+        if name is None:
+            return "not looked at: laid into its caller"
         of_library = [called for called in self.called(name) if called.startswith(LIBRARIES)]
         ends = []
         for body in (self.functions[part] for part in {name, *of_library}):

@@ -310,6 +310,10 @@ def wrong_beside(account, original, all_were_run):
     yield from sample.stale(original)
     if subprocess.run([sys.executable, ROOT / "tools" / "scenarios.py", "--check"]).returncode != 0:
         yield "crates/replay/stdin and stdout are not as tools/scenarios.py writes them"
+    if subprocess.run([sys.executable, ROOT / "tools" / "pages.py"]).returncode != 0:
+        yield "docs/ITERTOOLS.md is not what crates/pages and CPython do"
+    if subprocess.run([sys.executable, ROOT / "oracle" / "recipes.py"]).returncode != 0:
+        yield "docs/RECIPES.md is not what crates/recipes and CPython do"
     for name in OTHERS:
         if all_were_run and account.judged[name].total() < LEAST:
             yield f"only {account.judged[name].total():,} scenarios were compared beside {name}"

@@ -10,17 +10,14 @@ import os
 import re
 import sys
 from multiprocessing import get_context
-from pathlib import Path
 
 import compare
 import differences
 import model
 import sample
+from by_hand import BY_HAND
+from compare import ROOT
 from protocol import is_silent
-
-ROOT = Path(__file__).resolve().parent.parent
-
-sys.path.insert(0, str(ROOT / "tools"))
 
 DOCUMENTS = (
     "README.md", "docs/ASSURANCE.md", "docs/DIFFERENCES.md", "docs/replay.md", "oracle/README.md"
@@ -52,8 +49,6 @@ def account_of(lines):
 def numbers():
     """The numbers that documents tell, rounded down as they tell them, and the account of the
     comparison."""
-    from scenarios import BY_HAND
-
     lines = compare.all_lines()
     account = compare.Account()
     with get_context("fork").Pool(os.cpu_count()) as pool:

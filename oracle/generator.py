@@ -8,7 +8,8 @@ import random
 import struct
 
 import model
-from protocol import BRANCHES, ENUMERATORS, LARGEST, LONGEST_BUFFER, MAXSIZE, Bad, making, read
+from protocol import (BRANCHES, ENUMERATORS, LARGEST, LONGEST_BUFFER, MAXSIZE, Bad, framed, making,
+                      read)
 
 TOP = 2**64 - 1
 F, G = "!1:2:3", "!1:5:4294967296"
@@ -504,7 +505,7 @@ def record(r):
     start = r.choice((0, 1, 360, 1439, 1440, r.randrange(1500)))
     end = r.choice((start, start + 1, 1440, 1441, 1439, r.randrange(1500), 65535))
     payload = struct.pack("<HHHH", r.randrange(2**16), r.randrange(4), start, end) + b"\x00"
-    return struct.pack("<HH", length, kind) + payload[:length]
+    return framed(kind, payload[:length])
 
 
 def random_records(chance):

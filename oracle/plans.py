@@ -1,9 +1,12 @@
 #!/usr/bin/env python3
-"""An independent model of the plan checker's report, written from docs/RULES.md, held beside the program.
+"""An independent model of the plan checker's report, written from docs/RULES.md, held beside the
+program.
 
-    oracle/plans.py PROGRAM [PLANS]     PLANS random plans (5,000), each at a cut too, and one plan at every cut
+    oracle/plans.py PROGRAM [PLANS]     PLANS random plans (5,000), each at a cut too, and one plan
+                                        at every cut
 
-Prints each plan that differs, and last how many were compared and how many differ; its status is 0 if none does.
+Prints each plan that differs, and last how many were compared and how many differ; its status is 0
+if none does.
 """
 import os
 import random
@@ -11,6 +14,8 @@ import struct
 import subprocess
 import sys
 import tempfile
+
+from protocol import framed
 
 CAUSES = {
     1: "fewer than four bytes left",
@@ -55,20 +60,15 @@ def stay(block):
     return "bus %5d  %s-%s" % (block[0], clock(block[2]), clock(block[3]))
 
 
-def report(name, data):
-    """The text and the exit status."""
-    blocks, faults = read(data)
-    lines = ["plan: %s, %d bytes" % (name, len(data))]
-    lines.append("blocks: %d" % len(blocks) if blocks else "no blocks")
-    lines += ["  bay %5d  %s" % (block[1], stay(block)) for block in blocks]
-    lines.append("faulty records: %d" % len(faults))
-    lines += ["  byte %7d  cause %d: %s" % (place, cause, CAUSES[cause]) for place, cause in faults]
-    lines.append("neighbours")
+def neighbours(blocks):
+    """Their lines, and how many overlaps, bays out of order, long gaps and pairs there are."""
+    lines = []
     overlaps = descents = gaps = pairs = 0
     for k, block in enumerate(blocks):
         if k > 0 and blocks[k - 1][1] > block[1]:
             descents += 1
-            lines.append("  bay %5d  is followed by bay %d: out of order" % (blocks[k - 1][1], block[1]))
+            places = (blocks[k - 1][1], block[1])
+            lines.append("  bay %5d  is followed by bay %d: out of order" % places)
         earlier = [other for other in blocks[:k] if other[1] == block[1]]
         if not earlier:
             continue
@@ -84,6 +84,20 @@ def report(name, data):
         if until != first[3]:
             line += " (bay taken until %s)" % clock(until)
         lines.append(line)
+    return lines, overlaps, descents, gaps, pairs
+
+
+def report(name, data):
+    """The text and the exit status."""
+    blocks, faults = read(data)
+    lines = ["plan: %s, %d bytes" % (name, len(data))]
+    lines.append("blocks: %d" % len(blocks) if blocks else "no blocks")
+    lines += ["  bay %5d  %s" % (block[1], stay(block)) for block in blocks]
+    lines.append("faulty records: %d" % len(faults))
+    lines += ["  byte %7d  cause %d: %s" % (place, cause, CAUSES[cause]) for place, cause in faults]
+    lines.append("neighbours")
+    laid, overlaps, descents, gaps, pairs = neighbours(blocks)
+    lines += laid
     lines.append("pairs: %d" % pairs)
     bays = {block[1] for block in blocks}
     assert pairs == sum(len([b for b in blocks if b[1] == bay]) - 1 for bay in bays)
@@ -98,12 +112,13 @@ def report(name, data):
     return "".join(line + "\n" for line in lines), 1 if reasons else 0
 
 
-def record(kind, payload):
-    return struct.pack("<HH", len(payload), kind) + payload
-
-
 def block_record(rng, bay, start, end):
-    return record(0x10, struct.pack("<HHHH", rng.choice([rng.randrange(65536), rng.randrange(20)]), bay, start, end))
+    bus = rng.choice([rng.randrange(65536), rng.randrange(20)])
+    return framed(0x10, struct.pack("<HHHH", bus, bay, start, end))
+
+
+def random_bytes(rng, count):
+    return bytes(rng.randrange(256) for _ in range(count))
 
 
 def plan(rng):
@@ -124,13 +139,15 @@ def plan(rng):
         what = rng.randrange(12)
         if what < 9:
             start = rng.randrange(0, 1440)
-            data += block_record(rng, rng.choice([1, 2, 3, 65535]), start, min(1441, start + rng.randrange(0, 90)))
+            bay = rng.choice([1, 2, 3, 65535])
+            data += block_record(rng, bay, start, min(1441, start + rng.randrange(0, 90)))
         elif what == 9:
-            data += record(rng.choice([0x11, 0, 0x1000]), bytes(rng.randrange(256) for _ in range(rng.randrange(0, 9))))
+            kind = rng.choice([0x11, 0, 0x1000])
+            data += framed(kind, random_bytes(rng, rng.randrange(0, 9)))
         elif what == 10:
-            data += record(0x10, bytes(rng.randrange(256) for _ in range(rng.choice([0, 7, 9, 16]))))
+            data += framed(0x10, random_bytes(rng, rng.choice([0, 7, 9, 16])))
         else:
-            data += bytes(rng.randrange(256) for _ in range(rng.randrange(0, 6)))
+            data += random_bytes(rng, rng.randrange(0, 6))
     return data
 
 
@@ -141,6 +158,13 @@ def play(program, folder, name, data):
     return done.stdout, done.returncode
 
 
+def cuts(rng):
+    """One plan at every cut."""
+    blocks = (block_record(rng, bay, 60 * bay, 60 * bay + 70) for bay in (1, 1, 2, 1))
+    whole = b"".join(blocks) + framed(0x11, b"abc")
+    return [whole[:cut] for cut in range(len(whole) + 1)]
+
+
 def main():
     program, count = os.path.abspath(sys.argv[1]), int(sys.argv[2]) if len(sys.argv) > 2 else 5000
     rng, plans, differ = random.Random(2026), [], 0
@@ -149,8 +173,7 @@ def main():
         plans.append(data)
         if data and rng.randrange(3) == 0:
             plans.append(data[: rng.randrange(len(data))])
-    whole = b"".join(block_record(rng, bay, 60 * bay, 60 * bay + 70) for bay in (1, 1, 2, 1)) + record(0x11, b"abc")
-    plans += [whole[:cut] for cut in range(len(whole) + 1)]
+    plans += cuts(rng)
     with tempfile.TemporaryDirectory() as folder:
         for data in plans:
             text, status = report("my.plan", data)

@@ -2,6 +2,7 @@
 
 import itertools
 import re
+import struct
 from dataclasses import dataclass
 
 MAXSIZE = 2**63 - 1
@@ -212,6 +213,11 @@ def buffer_size(part):
     size = optional(part)
     need(size is None or size <= LONGEST_BUFFER)
     return size
+
+
+def framed(kind, payload, length=None):
+    """A record: a length, which is its payload's where no other is told, the kind, the payload."""
+    return struct.pack("<HH", len(payload) if length is None else length, kind) + payload
 
 
 def record_bytes(digits):

@@ -1,5 +1,6 @@
 #!/usr/bin/env python3
-"""Lists the places in crates/*/src that older Rattle is likely to have left, point by point (docs/DESIGN-PASS.md).
+"""Lists the places in crates/*/src that older Rattle is likely to have left, point by point
+(docs/DESIGN-PASS.md).
 
     tools/places.py [COMMIT]     of a commit, or of the work tree
 
@@ -45,7 +46,8 @@ def enums_of_two():
     found = []
     for name, text in SOURCES.items():
         for m in re.finditer(r'enum (\w+)(?:<.*?>)? \{\n(.*?)\n\}', text, re.S):
-            variants = [v for v in m.group(2).split('\n') if v.strip() and not v.strip().startswith('//')]
+            variants = [v for v in m.group(2).split('\n')
+                        if v.strip() and not v.strip().startswith('//')]
             if len(variants) == 2:
                 found.append(f'{name}: enum {m.group(1)}')
     return found
@@ -60,12 +62,15 @@ def functions():
             yield name, m.group(2), m.group(3)
 
 
+KEPT = set('fn let mut if else match return for in while loop Ok Err Some None self Self as'
+           ' true false'.split())
+
+
 def shape(body):
     body = re.sub(r'(requires|ensures)\*? ?\w* ?\{[^\n]*\}|\n +\(λ[^\n]*|\n +×[^\n]*', '', body)
     body = re.sub(r'//[^\n]*', '', body)
     words = re.findall(r'"[^"]*"|\w+|[^\w\s]', body)
-    keep = set('fn let mut if else match return for in while loop Ok Err Some None self Self as true false'.split())
-    return ' '.join(w if w in keep or not re.match(r'[\w"]', w) else 'x' for w in words), len(words)
+    return ' '.join(w if w in KEPT or not re.match(r'[\w"]', w) else 'x' for w in words), len(words)
 
 
 def twins():
@@ -77,6 +82,12 @@ def twins():
     return [' ~ '.join(g) for g in groups.values() if len(g) > 1]
 
 
+def shared(found, word):
+    """What three functions or more have, those that most have first."""
+    most = sorted(found.items(), key=lambda pair: -len(pair[1]))
+    return [f'{word(what)} in {len(where)} functions' for what, where in most if len(where) >= 3]
+
+
 def together():
     pairs = collections.defaultdict(set)
     for name, fn, rest in functions():
@@ -85,7 +96,7 @@ def together():
         for i, a in enumerate(params):
             for b in params[i + 1:]:
                 pairs[(a, b)].add(f'{name}: fn {fn}')
-    return [f'{a}, {b} in {len(w)} functions' for (a, b), w in sorted(pairs.items(), key=lambda p: -len(p[1])) if len(w) >= 3]
+    return shared(pairs, ', '.join)
 
 
 def facts():
@@ -93,21 +104,27 @@ def facts():
     for name, fn, rest in functions():
         for clause in re.findall(r'(?:requires|ensures) ?\w* ?\{ (.*?) \}\n', rest, re.S):
             for part in re.split(r' × ', clause):
-                count[' '.join(part.split()).strip('() ').replace('.old', '').replace('.now', '')].add(f'{name}: fn {fn}')
-    return [f'{p} in {len(w)} functions' for p, w in sorted(count.items(), key=lambda q: -len(q[1])) if len(w) >= 3]
+                fact = ' '.join(part.split()).strip('() ')
+                count[fact.replace('.old', '').replace('.now', '')].add(f'{name}: fn {fn}')
+    return shared(count, str)
 
 
 POINTS = [
     ('1. own Option or Result, flags, numbers for kinds', enums_of_two()
      + lines(r'^    (pub(\([a-z]+\))? )?\w+: bool,$')
-     + lines(r'^    pub (origin|cause): u\d+,|fault_at\([0-9]|fn reason|=> [0-9],$|^    r$|return Err\(fmt::Error|FAILED\.len')),
+     + lines(r'^    pub (origin|cause): u\d+,|fault_at\([0-9]|fn reason|=> [0-9],$|^    r$'
+             r'|return Err\(fmt::Error|FAILED\.len')),
     ('2. twins', twins()),
-    ('3. loops that count by hand', lines(r'\bfor \w+ in [^{]*\.\.|\.enumerate\(\)|while \w+ [<>]|\b(i|n|count|ends|rest) [-+/]= |\.push\(')),
+    ('3. loops that count by hand',
+     lines(r'\bfor \w+ in [^{]*\.\.|\.enumerate\(\)|while \w+ [<>]'
+           r'|\b(i|n|count|ends|rest) [-+/]= |\.push\(')),
     ('4. equality, conversion, printing by hand',
-     lines(r'a\.\w+ == b\.|fn (word_of|number\w*|reason|digit\w*|step_of|keep_first)\b|256 \* |fn (show|write)_\w+')
+     lines(r'a\.\w+ == b\.|fn (word_of|number\w*|reason|digit\w*|step_of|keep_first)\b|256 \* '
+           r'|fn (show|write)_\w+')
      + lines(r'write_str\("|^impl.* (fmt::Display|From<.*>|Show) for')),
     ('5. facts and parameters that go together', facts() + together()),
-    ('6. buffers with a length beside, parallel arrays', lines(r'^    (pub(\([a-z]+\))? )?\w+: \[\w+; \d+\],$')),
+    ('6. buffers with a length beside, parallel arrays',
+     lines(r'^    (pub(\([a-z]+\))? )?\w+: \[\w+; \d+\],$')),
     ('7. switches on steps', lines(r'^ *match \w+ \{$')),
 ]
 

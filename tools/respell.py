@@ -1,13 +1,17 @@
 #!/usr/bin/env python3
-"""Brings the names of this repository's own definitions and lemmas to the spelling that Rattle's library has.
+"""Brings the names of this repository's own definitions and lemmas to the spelling that Rattle's
+library has.
 
-usage: python3 tools/respell.py          at the top of the repository, once, behind Rattle's own porting script
-       python3 tools/respell.py --look   prints the names that it would turn, and those that would fall together
+usage: python3 tools/respell.py          at the top of the repository, once, behind Rattle's own
+                                         porting script
+       python3 tools/respell.py --look   prints the names that it would turn, and those that would
+                                         fall together
 
-Words are in snake case (`first-row` becomes `first_row`), and facts, which are definitions that give a type, in camel
-case (`hex-digit` becomes `HexDigit`). A fact or a variant that a file of src/ had brought in under a lower-case name is
-called by its own name there. Functions, strings and what programs read and write stay as they are. Where two names would fall
-together the script stops and writes nothing.
+Words are in snake case (`first-row` becomes `first_row`), and facts, which are definitions that
+give a type, in camel case (`hex-digit` becomes `HexDigit`). A fact or a variant that a file of src/
+had brought in under a lower-case name is called by its own name there. Functions, strings and what
+programs read and write stay as they are. Where two names would fall together the script stops and
+writes nothing.
 """
 
 import pathlib
@@ -23,7 +27,8 @@ PARAMETERS = {"most-elements", "most-places"}
 APART = {"every-history", "pool-by-pool"}
 # what src/ goes on calling by another name, since its own name means a type or a variant there
 ALIASED = {"Item", "Fault", "Step", "Result", "First"}
-DEFINED = re.compile(r"^(?:(?:pub|abbrev|unfoldable|data|record|ruleset) )*([^\s:(){}=]+) :(?: |$)", re.M)
+DEFINED = re.compile(
+    r"^(?:(?:pub|abbrev|unfoldable|data|record|ruleset) )*([^\s:(){}=]+) :(?: |$)", re.M)
 CLAUSED = re.compile(r"^([^\s:(){}=]+)(?: [^=\n]*)? =", re.M)
 FIELD = re.compile(r"(?:^  (?:pub )?|[{;] ?|^ +)([a-z][\w']*(?:-[\w']+)+) (?::|=)(?= |$)", re.M)
 ALIAS = re.compile(r"\b([A-Z]\w*) as ([a-z][\w'-]*)")
@@ -37,18 +42,26 @@ def snake(name):
     return FACTS.get(name) or WORDS.get(name) or name.replace("-", "_")
 
 
+def one_of(names):
+    """A pattern for these names, the longest first, that no letter follows."""
+    longest_first = sorted(map(re.escape, names), key=len, reverse=True)
+    return "(" + "|".join(longest_first) + r")(?![\w'\-])"
+
+
 def whole(names):
     """A pattern for these names as whole words."""
-    return re.compile(r"(?<![\w'\-.◌])(" + "|".join(sorted(map(re.escape, names), key=len, reverse=True)) + r")(?![\w'\-])")
+    return re.compile(r"(?<![\w'\-.◌])" + one_of(names))
 
 
 def read(top, pattern):
-    return {p: p.read_text(encoding="utf-8") for p in sorted(top.glob(pattern)) if "out" not in p.parts}
+    paths = (path for path in sorted(top.glob(pattern)) if "out" not in path.parts)
+    return {path: path.read_text(encoding="utf-8") for path in paths}
 
 
 def answers(path):
     """Whether the file answers the goals of a function: their names are the toolkit's, not ours."""
-    return path.name in ("Answers.antt", "Invariants.antt", "Proof.antt") and path.parent.name != "proofs"
+    named = path.name in ("Answers.antt", "Invariants.antt", "Proof.antt")
+    return named and path.parent.name != "proofs"
 
 
 def names_of(logic):
@@ -65,11 +78,12 @@ def names_of(logic):
 def turn_logic(text, words, fields):
     text = whole(words | fields).sub(lambda m: snake(m[1]), text)
     # fields behind a dot too
-    return re.sub(r"(?<=\.)(" + "|".join(sorted(map(re.escape, fields), key=len, reverse=True)) + r")(?![\w'\-])", lambda m: snake(m[1]), text)
+    return re.sub(r"(?<=\.)" + one_of(fields), lambda m: snake(m[1]), text)
 
 
 def ghost_text(text, change):
-    """The text with its ghost parts changed: imports, clauses, ghost members and laws, each to its last brace."""
+    """The text with its ghost parts changed: imports, clauses, ghost members and laws, each to its
+    last brace."""
     out, at = [], 0
     for m in re.finditer(r"^ *(?:pub )?(?:ghost|law|ensures\*?|requires\*?)\b", text, re.M):
         if m.start() < at:
@@ -90,7 +104,8 @@ def ghost_text(text, change):
 
 def turn_source(text, words, fields):
     aliases = {short: fact for fact, short in ALIAS.findall(text) if fact not in ALIASED}
-    dashes = {short for _, short in re.findall(r"\b(\w+) as ([a-z][\w']*(?:-[\w']+)+)", text)} - set(aliases)
+    dashed_aliases = re.findall(r"\b\w+ as ([a-z][\w']*(?:-[\w']+)+)", text)
+    dashes = set(dashed_aliases) - set(aliases)
 
     def change(line):
         for short, fact in aliases.items():

@@ -2,6 +2,7 @@ pub mod TakeWhile
 pub mod DropWhile
 pub mod Chain
 pub mod Islice
+pub mod Keys
 pub mod Compress
 pub mod Accumulate
 pub mod Pairwise

@@ -5,13 +5,21 @@ ghost use Rattle.steps.specs.Fault.{OfJoining};
 ghost use Rattle.laws.specs.Items.{faults, items as items_of};
 ghost use Rattle.laws.specs.Faults.{Woven, TotalsGiven};
 ghost use Rattle.laws.specs.Accumulate.{from_initial, accumulate_left, total_after, RunningTotals};
-ghost use Rattle.adapters.specs.Accumulate.{accumulate_source, accumulate_joining, accumulate_initial, accumulate_total, accumulate_ahead};
+ghost use Rattle.adapters.specs.Accumulate.{
+  accumulate_source,
+  accumulate_joining,
+  accumulate_initial,
+  accumulate_total,
+  accumulate_ahead,
+};
 
 use steps::{Answer, Fault, Joining, Source};
 
-/// Gives the initial value, if there is one, and then each item joined to the total so far: by sums, `1 2 3` give `1 3 6`.
+/// Gives the initial value, if there is one, and then each item joined to the total so far: by
+/// sums, `1 2 3` give `1 3 6`.
 ///
-/// A fault of the source is answered as it is; a joining's takes its item's place. Both leave the total.
+/// A fault of the source is answered as it is; a joining's takes its item's place. Both leave the
+/// total.
 #[derive(Drop)]
 pub struct Accumulate<S: Source, J> {
     source: S,
@@ -74,7 +82,7 @@ where
         ensures below { S.Source.ahead (accumulate_source self.new)
             ≡ accumulate_left (accumulate_initial self.old) (accumulate_total self.old)
             (S.Source.ahead (accumulate_source self.old)) }
-        ensures totals { accumulate_total self.new
+        ensures stands { accumulate_total self.new
             ≡ total_after (J.Joining.joins (accumulate_joining self.old))
             (accumulate_initial self.old) (accumulate_total self.old)
             (S.Source.ahead (accumulate_source self.old)) }

@@ -4,7 +4,18 @@ ghost use Rattle.steps.specs.Below.{Drew, fault_of, Two};
 ghost use Rattle.laws.specs.Items.{faults};
 ghost use Rattle.laws.specs.Run.{Follows};
 ghost use Rattle.laws.specs.Chain.{until_fault, OneAfterOther, CutAtFault};
-ghost use Rattle.adapters.specs.Chain.{first_left, second_left, stage_after, chain_first, chain_second, chain_stage, chain_ahead, chain_run, chain_end, chain_below};
+ghost use Rattle.adapters.specs.Chain.{
+  first_left,
+  second_left,
+  stage_after,
+  chain_first,
+  chain_second,
+  chain_stage,
+  chain_ahead,
+  chain_run,
+  chain_end,
+  chain_below,
+};
 ghost use Rattle.adapters.specs.declared.chain.Stage.TheVariants.{First as at_first};
 
 use steps::{Answer, Fault, Source};
@@ -12,15 +23,18 @@ use steps::{Answer, Fault, Source};
 /// Which source a chain draws from.
 #[derive(Clone, Copy, PartialEq, Eq, Debug)]
 pub enum Stage {
+    /// The first, as long as it gives items.
     First,
+    /// The second, once the first has ended and an item of the second was given.
     Second,
+    /// Neither: both have ended, or a fault was met.
     Over,
 }
 
 /// Gives the steps of one source and then those of another: `1 2` and `3` give `1 2 3`.
 ///
-/// A fault of either is answered as it is, and is the last step: `1 !` and `3` give `1 !`. Nothing of the second source is drawn
-/// before the first has ended.
+/// A fault of either is answered as it is, and is the last step: `1 !` and `3` give `1 !`. Nothing
+/// of the second source is drawn before the first has ended.
 #[derive(Drop)]
 pub struct Chain<A, B> {
     first: A,
@@ -29,8 +43,9 @@ pub struct Chain<A, B> {
 }
 
 impl<A: Source, B: Source<Item = A::Item>> Chain<A, B> {
+    // what is ahead is told by a word, since a chain is a source only where its items can be
+    // dropped
     /// Takes over two sources, and draws nothing.
-    // what is ahead is told by a word, since a chain is a source only where its items can be dropped
     #[tactic(auto, using(laws::proofs::Chain::one_after_other, laws::proofs::Chain::chain_faults))]
     pub fn new(first: A, second: B) -> Self
         ensures ahead { chain_ahead A.Source.ahead B.Source.ahead result
@@ -66,7 +81,8 @@ where
 
     ghost loans = { λ s. A.Source.loans (chain_first s) ++ B.Source.loans (chain_second s) };
 
-    ghost bottom = { λ s. Two (A.Source.bottom (chain_first s)) (B.Source.bottom (chain_second s)) };
+    ghost bottom = { λ s. Two (A.Source.bottom (chain_first s))
+        (B.Source.bottom (chain_second s)) };
 
     #[tactic(auto, using(crate::proofs::ChainLemmas::chain_call))]
     fn next(&mut self) -> Result<Answer<A::Item>, Fault>

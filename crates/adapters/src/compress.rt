@@ -6,15 +6,26 @@ ghost use Rattle.laws.specs.Items.{items as items_of, first_fault};
 ghost use Rattle.laws.specs.Run.{Follows};
 ghost use Rattle.laws.specs.Faults.{HandedTwo, unlost};
 ghost use Rattle.laws.specs.Compress.{CompressDraws, compressed, KeepsAccepted, EachDatum};
-ghost use Rattle.adapters.specs.Compress.{compress_items, compress_selectors, compress_predicate, compress_ended, compress_ahead, compress_next, compress_run, compress_end, compress_left};
+ghost use Rattle.adapters.specs.Compress.{
+  compress_items,
+  compress_selectors,
+  compress_predicate,
+  compress_ended,
+  compress_ahead,
+  compress_next,
+  compress_run,
+  compress_end,
+  compress_left,
+};
 
 use crate::finish::keep_first;
 use steps::{Answer, Fault, Predicate, Source};
 
-/// Gives the items whose selectors the predicate accepts: `7 8 9` with `0 5 0` give `7 9` where numbers below 1 are accepted.
+/// Gives the items whose selectors the predicate accepts: `7 8 9` with `0 5 0` give `7 9` where
+/// numbers below 1 are accepted.
 ///
-/// A datum is drawn, then its selector. A fault of the data is answered with no selector drawn; a selector's and a predicate's lose the
-/// datum. Once it has said end it draws nothing.
+/// A datum is drawn, then its selector. A fault of the data is answered with no selector drawn; a
+/// selector's and a predicate's lose the datum. Once it has said end it draws nothing.
 #[derive(Drop)]
 pub struct Compress<D, S, P> {
     items: D,
@@ -67,9 +78,11 @@ where
 
     ghost ahead = { λ s. compress_ahead P.Predicate.says D.Source.ahead S.Source.ahead s };
 
-    ghost loans = { λ s. D.Source.loans (compress_items s) ++ S.Source.loans (compress_selectors s) };
+    ghost loans = { λ s. D.Source.loans (compress_items s)
+        ++ S.Source.loans (compress_selectors s) };
 
-    ghost bottom = { λ s. Two (D.Source.bottom (compress_items s)) (S.Source.bottom (compress_selectors s)) };
+    ghost bottom = { λ s. Two (D.Source.bottom (compress_items s))
+        (S.Source.bottom (compress_selectors s)) };
 
     #[tactic(auto, using(laws::proofs::Compress::compress_call))]
     fn next(&mut self) -> Result<Answer<D::Item>, Fault>
@@ -89,8 +102,9 @@ where
         ensures below_items { D.Source.ahead (compress_items self.new)
             ≡ (compress_next P.Predicate.says D.Source.ahead S.Source.ahead self.old).data_left }
         ensures below_selectors { S.Source.ahead (compress_selectors self.new)
-            ≡ (compress_next P.Predicate.says D.Source.ahead S.Source.ahead self.old).selectors_left }
-        ensures ends { compress_ended self.new
+            ≡ (compress_next P.Predicate.says D.Source.ahead S.Source.ahead
+            self.old).selectors_left }
+        ensures stands { compress_ended self.new
             ≡ (compress_next P.Predicate.says D.Source.ahead S.Source.ahead self.old).ended }
         ensures keeps { compress_predicate self.new ≡ compress_predicate self.old }
     {
@@ -115,13 +129,12 @@ impl<D: Source, S: Source, P: Predicate<S::Item>> Compress<D, S, P>
 where
     D::Item: Drop,
 {
+    // The same loop stands in islice; what each leaves below differs.
     /// Steps the compress until it says end, and answers the first fault that it met, if any.
-    // The same loop stands in islice: one for any source could not say what each leaves below, but by a trait of its own that is
-    // longer than both.
     #[tactic(auto, using(steps::proofs::RunLemmas::ran_start))]
     pub fn finish(&mut self) -> Option<Fault>
         ensures meets { result ≡ first_fault (⟦<Compress<D, S, P> as Source>⟧.ahead self.old) }
-        ensures ended { compress_ended self.new ≡ true }
+        ensures stands { compress_ended self.new ≡ true }
         ensures below_items { D.Source.ahead (compress_items self.new)
             ≡ (compress_end D.Source.ahead S.Source.ahead self.old).data_left }
         ensures below_selectors { S.Source.ahead (compress_selectors self.new)
@@ -133,7 +146,8 @@ where
             (S.Source.ahead (compress_selectors self.new)) }
         ensures keeps { compress_predicate self.new ≡ compress_predicate self.old }
         ensures ran { Ran (⟦<Compress<D, S, P> as Source>⟧.bottom self.old)
-            (⟦<Compress<D, S, P> as Source>⟧.bottom self.new) (⟦<Compress<D, S, P> as Source>⟧.ahead self.old) }
+            (⟦<Compress<D, S, P> as Source>⟧.bottom self.new)
+            (⟦<Compress<D, S, P> as Source>⟧.ahead self.old) }
     {
         let mut met = None;
         loop {

@@ -5,14 +5,21 @@ ghost use Rattle.steps.specs.Fault.{OfPredicate};
 ghost use Rattle.laws.specs.Items.{faults, items as items_of};
 ghost use Rattle.laws.specs.Faults.{Woven};
 ghost use Rattle.laws.specs.DropWhile.{dropped, BehindFront};
-ghost use Rattle.adapters.specs.DropWhile.{dropwhile_source, dropwhile_predicate, dropwhile_started, dropwhile_ahead, dropwhile_after};
+ghost use Rattle.adapters.specs.DropWhile.{
+  dropwhile_source,
+  dropwhile_predicate,
+  dropwhile_started,
+  dropwhile_ahead,
+  dropwhile_after,
+};
 
 use steps::{Answer, Fault, Predicate, Source};
 
-/// Loses the items of its source that come before the first that the predicate denies, and gives all from that one on: below 3, the
-/// items `1 2 5 1` give `5 1`.
+/// Loses the items of its source that come before the first that the predicate denies, and gives
+/// all from that one on: below 3, the items `1 2 5 1` give `5 1`.
 ///
-/// A fault of the source is answered as it is; a predicate's takes its item's place and does not start it.
+/// A fault of the source is answered as it is; a predicate's takes its item's place and does not
+/// start it.
 #[derive(Drop)]
 pub struct DropWhile<S, P> {
     predicate: P,
@@ -69,7 +76,7 @@ where
             (⟦<DropWhile<S, P> as Source>⟧.bottom self.new) (fault_of result) }
         ensures below { S.Source.ahead (dropwhile_source self.new)
             ≡ (dropwhile_after P.Predicate.says S.Source.ahead self.old).left }
-        ensures starts { dropwhile_started self.new
+        ensures stands { dropwhile_started self.new
             ≡ (dropwhile_after P.Predicate.says S.Source.ahead self.old).started }
         ensures keeps { dropwhile_predicate self.new ≡ dropwhile_predicate self.old }
     {

@@ -4,23 +4,46 @@ ghost use Rattle.steps.specs.Refusals.{refusal_number};
 ghost use Rattle.steps.specs.Below.{Drew, Ran, fault_of};
 ghost use Rattle.laws.specs.Items.{first_fault, faults, items as items_of};
 ghost use Rattle.laws.specs.Run.{Follows};
-ghost use Rattle.laws.specs.Islice.{Bounds as TheBounds, Consumed, small, checked, bounds, reached, until, slices, sliced, SliceMade};
-ghost use Rattle.adapters.specs.Islice.{bounds_of, islice_source, islice_drawn, islice_number, islice_stop, islice_step, islice_ahead, islice_after, islice_run, islice_end};
+ghost use Rattle.laws.specs.Islice.{
+  Bounds as TheBounds,
+  Consumed,
+  small,
+  checked,
+  bounds,
+  reached,
+  until,
+  slices,
+  sliced,
+  SliceMade,
+};
+ghost use Rattle.adapters.specs.Islice.{
+  bounds_of,
+  islice_source,
+  islice_drawn,
+  islice_number,
+  islice_stop,
+  islice_step,
+  islice_ahead,
+  islice_after,
+  islice_run,
+  islice_end,
+};
 
 use crate::finish::keep_first;
-use steps::{Answer, Fault, Refusal, Source};
+use steps::{Answer, Fault, MakingError, Refusal, Source};
 
 /// The largest number that an argument of islice may be.
 pub const MAXSIZE: u64 = 9_223_372_036_854_775_807;
 
-/// Gives the items at start, start + step and so on below stop, counted from 0: of `0 1 2 3 4`, start 1, stop 4 and step 2 give `1 3`.
+/// Gives the items at start, start + step and so on below stop, counted from 0: of `0 1 2 3 4`,
+/// start 1, stop 4 and step 2 give `1 3`.
 ///
-/// A fault on the way is answered as it is, and not counted. When item number n is given, n + 1 items are drawn; by the end they are
-/// the larger of start and stop.
+/// A fault on the way is answered as it is, and not counted. When item number n is given, n + 1
+/// items are drawn; by the end they are the larger of start and stop.
 #[derive(Drop)]
 pub struct Islice<S> {
     source: S,
-    // how many items were drawn
+    // how many items were drawn, as long as there is a next one to give, and else 0
     cur: u64,
     // the number of the next item to give, unless it passes 64 bits
     next: Option<u64>,
@@ -44,7 +67,8 @@ fn is_small(entry: Option<u64>) -> bool
     entry.is_none_or(|number| number <= MAXSIZE)
 }
 
-// The arguments are stop; start and stop; or start, stop and step. An absent one is start 0, no stop, step 1.
+// The arguments are stop; start and stop; or start, stop and step. An absent one is start 0, no
+// stop, step 1.
 fn read_bounds(arguments: &[Option<u64>]) -> Option<Bounds>
     ensures { bounds_of result ≡ bounds arguments.now }
 {
@@ -86,14 +110,15 @@ fn drawn_until(start: u64, stop: Option<u64>) -> Option<u64>
 }
 
 impl<S: Source> Islice<S> {
-    /// Takes over a source, and draws nothing. Arguments that are not one to three entries, a step of 0 and a number above MAXSIZE are
-    /// refused (5), and the source is handed back.
+    /// Takes over a source, and draws nothing. Arguments that are not one to three entries, a step
+    /// of 0 and a number above MAXSIZE are refused (5), and the source is handed back.
     #[tactic(auto, using(laws::proofs::Islice::faults_kept, laws::proofs::Islice::items_kept))]
-    pub fn new(source: S, arguments: &[Option<u64>]) -> Result<Self, (Refusal, S)>
+    pub fn new(source: S, arguments: &[Option<u64>]) -> Result<Self, MakingError<S>>
         ensures made { MatchResult result
             (λ s. (islice_source s ≡ source) × SliceMade arguments.now (S.Source.ahead source)
             (islice_drawn s) (islice_number s) (islice_stop s) (islice_step s))
-            (λ e. (bounds arguments.now ≡ None) × (refusal_number e.0 ≡ 5) × (e.1 ≡ source)) }
+            (λ e. (bounds arguments.now ≡ None) × (refusal_number e.refusal ≡ 5)
+            × (e.source ≡ source)) }
         ensures faults_given { IfOk result (λ s. faults (islice_ahead S.Source.ahead s)
             ++ faults (islice_end S.Source.ahead s) ≡ faults (S.Source.ahead source)) }
         ensures items_given { IfOk result (λ s. items_of (islice_ahead S.Source.ahead s)
@@ -101,7 +126,10 @@ impl<S: Source> Islice<S> {
             (map Ok (items_of (S.Source.ahead source))))) }
     {
         let Some(bounds) = read_bounds(arguments) else {
-            return Err((Refusal::SliceArguments, source));
+            return Err(MakingError {
+                refusal: Refusal::SliceArguments,
+                source,
+            });
         };
         let stop = drawn_until(bounds.start, bounds.stop);
         Ok(Islice {
@@ -140,7 +168,7 @@ where
             (islice_run S.Source.ahead self.new) (islice_end S.Source.ahead self.new) }
         ensures below { S.Source.ahead (islice_source self.new)
             ≡ (islice_after S.Source.ahead self.old).left }
-        ensures counts { (islice_number self.new ≡ (islice_after S.Source.ahead self.old).next)
+        ensures stands { (islice_number self.new ≡ (islice_after S.Source.ahead self.old).next)
             × (islice_drawn self.new ≡ (islice_after S.Source.ahead self.old).cur) }
         ensures keeps { (islice_stop self.new ≡ islice_stop self.old)
             × (islice_step self.new ≡ islice_step self.old) }
@@ -148,24 +176,29 @@ where
         let Some(next) = self.next else {
             return Ok(Answer::End);
         };
-        while !is_reached(self.stop, self.cur) {
-            let Answer::Item(item) = self.source.next()? else {
+        while self.cur < next && !is_reached(self.stop, self.cur) {
+            let Answer::Item(_lost) = self.source.next()? else {
                 return Ok(Answer::End);
             };
-            if self.cur < next {
-                self.cur += 1;
-                continue;
-            }
-            let raised = next.wrapping_add(self.step);
-            if raised > next {
-                self.cur = next + 1;
-                self.next = Some(raised);
-            } else {
-                self.next = None;
-            }
-            return Ok(Answer::Item(item));
+            self.cur += 1;
         }
-        Ok(Answer::End)
+        if is_reached(self.stop, self.cur) {
+            return Ok(Answer::End);
+        }
+        let Answer::Item(item) = self.source.next()? else {
+            return Ok(Answer::End);
+        };
+        let raised = next.wrapping_add(self.step);
+        if raised > next {
+            self.cur = next + 1;
+            self.next = Some(raised);
+        } else {
+            // from a start of 0 by a step of 1 both counts are then the same in every state, and
+            // the compiler drops the loop above
+            self.cur = 0;
+            self.next = None;
+        }
+        Ok(Answer::Item(item))
     }
 }
 
@@ -184,7 +217,8 @@ where
             ≡ S.Source.ahead (islice_source self.new) }
         ensures keeps { (islice_stop self.new ≡ islice_stop self.old)
             × (islice_step self.new ≡ islice_step self.old) }
-        ensures ran { Ran (⟦<Islice<S> as Source>⟧.bottom self.old) (⟦<Islice<S> as Source>⟧.bottom self.new)
+        ensures ran { Ran (⟦<Islice<S> as Source>⟧.bottom self.old)
+            (⟦<Islice<S> as Source>⟧.bottom self.new)
             (⟦<Islice<S> as Source>⟧.ahead self.old) }
     {
         let mut met = None;
@@ -198,17 +232,18 @@ where
     }
 }
 
-/// Draws from a source what an islice of these arguments draws, and hands it back with the first fault that was met, if any. Refused
-/// as an islice is.
+/// Draws from a source what an islice of these arguments draws, and hands it back with the first
+/// fault that was met, if any. Refused as an islice is.
 pub fn consume<S: Source>(
     source: S,
     arguments: &[Option<u64>],
-) -> Result<(S, Option<Fault>), (Refusal, S)>
+) -> Result<(S, Option<Fault>), MakingError<S>>
 where
     S::Item: Drop,
     ensures consumed { MatchResult result
         (λ p. Consumed arguments.now (S.Source.ahead source) (S.Source.ahead p.0) p.1)
-        (λ e. (bounds arguments.now ≡ None) × (refusal_number e.0 ≡ 5) × (e.1 ≡ source)) }
+        (λ e. (bounds arguments.now ≡ None) × (refusal_number e.refusal ≡ 5)
+        × (e.source ≡ source)) }
     ensures ran { IfOk result (λ p. (b : TheBounds) × (bounds arguments.now ≡ Some b)
         × Ran (S.Source.bottom source) (S.Source.bottom p.0) (sliced b (S.Source.ahead source))) }
 {

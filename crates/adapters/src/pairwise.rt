@@ -3,15 +3,29 @@ ghost use Rattle.steps.specs.Steps.{first as first_answer, rest as rest_of};
 ghost use Rattle.steps.specs.Below.{Drew, fault_of};
 ghost use Rattle.laws.specs.Items.{faults, items as items_of};
 ghost use Rattle.laws.specs.Run.{Follows};
-ghost use Rattle.laws.specs.Pairwise.{paired, next_old, unpaired, pairs_left, pairs_old, from_pair, Neighbours, PairsDrawn};
-ghost use Rattle.adapters.specs.Pairwise.{pairwise_source, pairwise_old, pairwise_ahead, pairwise_run};
+ghost use Rattle.laws.specs.Pairwise.{
+  paired,
+  next_old,
+  unpaired,
+  pairs_left,
+  pairs_old,
+  from_pair,
+  Neighbours,
+  PairsDrawn,
+};
+ghost use Rattle.adapters.specs.Pairwise.{
+  pairwise_source,
+  pairwise_old,
+  pairwise_ahead,
+  pairwise_run,
+};
 
 use steps::{Answer, Fault, Source};
 
 /// Gives each item with the one before it, as a pair: `1 2 3` give `(1, 2) (2, 3)`.
 ///
-/// A fault of the source is answered as it is. Before the first pair it loses the item drawn in its call: `1 ! 2 3` give the fault and
-/// `(2, 3)`; later it loses nothing.
+/// A fault of the source is answered as it is. Before the first pair it loses the item drawn in its
+/// call: `1 ! 2 3` give the fault and `(2, 3)`; later it loses nothing.
 #[derive(Drop)]
 pub struct Pairwise<S: Source> {
     source: S,
@@ -19,8 +33,9 @@ pub struct Pairwise<S: Source> {
 }
 
 impl<S: Source> Pairwise<S> {
+    // what is ahead is told by a word, since a pairwise is a source only where its items can be
+    // copied
     /// Takes over a source, and draws nothing.
-    // what is ahead is told by a word, since a pairwise is a source only where its items can be copied
     #[tactic(auto, using(laws::proofs::Pairwise::neighbours, laws::proofs::Pairwise::pairwise_faults, laws::proofs::Pairwise::pairwise_items))]
     pub fn new(source: S) -> Self
         ensures ahead { pairwise_ahead S.Source.ahead result ≡ unpaired (S.Source.ahead source) }
@@ -58,7 +73,7 @@ impl<S: Source> Pairwise<S> {
             (S.Source.bottom (pairwise_source self.exit.now)) (fault_of result) }
         ensures below { S.Source.ahead (pairwise_source self.exit.now)
             ≡ rest_of (S.Source.ahead (pairwise_source self.entry.now)) }
-        ensures waits { pairwise_old self.exit.now
+        ensures stands { pairwise_old self.exit.now
             ≡ next_old (pairwise_old self.entry.now)
             (S.Source.ahead (pairwise_source self.entry.now)) }
     {
@@ -97,7 +112,7 @@ where
         ensures below { S.Source.ahead (pairwise_source self.exit.now)
             ≡ pairs_left (pairwise_old self.entry.now)
             (S.Source.ahead (pairwise_source self.entry.now)) }
-        ensures waits { pairwise_old self.exit.now
+        ensures stands { pairwise_old self.exit.now
             ≡ pairs_old (pairwise_old self.entry.now)
             (S.Source.ahead (pairwise_source self.entry.now)) }
     {

@@ -6,15 +6,22 @@ ghost use Rattle.laws.specs.Items.{items as items_of};
 ghost use Rattle.laws.specs.Run.{Follows};
 ghost use Rattle.laws.specs.Faults.{Handed};
 ghost use Rattle.laws.specs.TakeWhile.{taken, takes_left, takes_stopped, LongestFront, DeniedLast};
-ghost use Rattle.adapters.specs.TakeWhile.{takewhile_source, takewhile_predicate, takewhile_stopped, takewhile_ahead, takewhile_run, takewhile_end};
+ghost use Rattle.adapters.specs.TakeWhile.{
+  takewhile_source,
+  takewhile_predicate,
+  takewhile_stopped,
+  takewhile_ahead,
+  takewhile_run,
+  takewhile_end,
+};
 
 use steps::{Answer, Fault, Predicate, Source};
 
-/// Gives the items of its source while the predicate accepts them, and ends at the first that it denies: below 3, the items
-/// `1 2 5 1` give `1 2`.
+/// Gives the items of its source while the predicate accepts them, and ends at the first that it
+/// denies: below 3, the items `1 2 5 1` give `1 2`.
 ///
-/// A fault of the source is answered as it is; a predicate's takes its item's place, and both leave the adapter going on. The
-/// denied item is drawn, and no step after it.
+/// A fault of the source is answered as it is; a predicate's takes its item's place, and both leave
+/// the adapter going on. The denied item is drawn, and no step after it.
 #[derive(Drop)]
 pub struct TakeWhile<S, P> {
     predicate: P,
@@ -36,7 +43,8 @@ where
         ensures holds { (takewhile_predicate result ≡ predicate)
             × (takewhile_source result ≡ source) × (takewhile_stopped result ≡ false) }
         ensures faults_given { Handed OfPredicate (S.Source.ahead source)
-            (takewhile_end P.Predicate.says S.Source.ahead result) (⟦<TakeWhile<S, P> as Source>⟧.ahead result) }
+            (takewhile_end P.Predicate.says S.Source.ahead result)
+            (⟦<TakeWhile<S, P> as Source>⟧.ahead result) }
         ensures items_given { items_of (⟦<TakeWhile<S, P> as Source>⟧.ahead result)
             ≡ items_of (taken (P.Predicate.says predicate)
             (map Ok (items_of (S.Source.ahead source)))) }
@@ -81,7 +89,7 @@ where
         ensures below { S.Source.ahead (takewhile_source self.new)
             ≡ takes_left (takewhile_stopped self.old)
             (S.Source.ahead (takewhile_source self.old)) }
-        ensures stops { takewhile_stopped self.new
+        ensures stands { takewhile_stopped self.new
             ≡ takes_stopped (P.Predicate.says (takewhile_predicate self.old))
             (takewhile_stopped self.old) (S.Source.ahead (takewhile_source self.old)) }
         ensures keeps { takewhile_predicate self.new ≡ takewhile_predicate self.old }

@@ -5,14 +5,24 @@ ghost use Rattle.laws.specs.Items.{faults, items as items_of};
 ghost use Rattle.laws.specs.Run.{Follows};
 ghost use Rattle.laws.specs.Faults.{Woven, NoneOwn, unlost};
 ghost use Rattle.laws.specs.ZipLongest.{zipped, right_left, LongestZip, OneOfEach};
-ghost use Rattle.adapters.specs.ZipLongest.{zip_left, zip_right, zip_left_fill, zip_right_fill, zip_ahead, zip_run, zip_below, zip_end};
+ghost use Rattle.adapters.specs.ZipLongest.{
+  zip_left,
+  zip_right,
+  zip_left_fill,
+  zip_right_fill,
+  zip_ahead,
+  zip_run,
+  zip_below,
+  zip_end,
+};
 
 use steps::{Answer, Fault, Source};
 
-/// Gives an item of each source as a pair, until both have ended; the one that ended first gives its fill: `1 2` with `5` give
-/// `(1, 5) (2, 0)` where the right's fill is 0.
+/// Gives an item of each source as a pair, until both have ended; the one that ended first gives
+/// its fill: `1 2` with `5` give `(1, 5) (2, 0)` where the right's fill is 0.
 ///
-/// A fault of the left is answered with nothing drawn on the right; a fault of the right loses the left item of its call.
+/// A fault of the left is answered with nothing drawn on the right; a fault of the right loses the
+/// left item of its call.
 #[derive(Drop)]
 pub struct ZipLongest<L: Source, R: Source> {
     left: L,

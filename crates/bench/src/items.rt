@@ -71,10 +71,7 @@ fn play<O: Origin>(origin: &O, job: Items) -> Tally {
 #[inline(always)]
 fn total<S: Source<Item = u64>>(source: &mut S) -> Tally {
     let mut tally = Tally::new();
-    for _ in 0..u64::MAX {
-        let Ok(Answer::Item(item)) = source.next() else {
-            break;
-        };
+    while let Ok(Answer::Item(item)) = source.next() {
         tally.add(item);
     }
     tally
@@ -84,10 +81,7 @@ fn total<S: Source<Item = u64>>(source: &mut S) -> Tally {
 #[inline(always)]
 fn pairs<S: Source<Item = (u64, u64)>>(source: &mut S) -> Tally {
     let mut tally = Tally::new();
-    for _ in 0..u64::MAX {
-        let Ok(Answer::Item((left, right))) = source.next() else {
-            break;
-        };
+    while let Ok(Answer::Item((left, right))) = source.next() {
         tally.add(left ^ right);
     }
     tally

@@ -59,8 +59,8 @@ pub(crate) enum Job {
 impl Job {
     /// The job that a line names, if it names one: `KIND POOL PLACES MOST`, or `range` or `list`,
     /// then `ADAPTER COUNT`.
-    pub(crate) fn read(heap: Global, line: &str) -> Result<Option<Job>, AllocError> {
-        let words: Vec<&str> = line.split(' ').collect(heap)?;
+    pub(crate) fn read(alloc: Global, line: &str) -> Result<Option<Job>, AllocError> {
+        let words: Vec<&str> = line.split(' ').collect(alloc)?;
         Ok(match words.as_slice() {
             [kind, pool, places, most] => read_rows(kind, pool, places, most),
             [over, adapter, count] => read_items(over, adapter, count),

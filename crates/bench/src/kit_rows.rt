@@ -7,44 +7,44 @@ use itertools::Itertools;
 use std::alloc::{AllocError, Global};
 
 /// The rows of a job, each by its last element.
-pub(crate) fn play(heap: Global, job: Rows) -> Tally {
+pub(crate) fn play(alloc: Global, job: Rows) -> Tally {
     match job.kind {
-        Kind::Product => product(heap, job),
-        Kind::Combinations => combinations(heap, job),
-        Kind::Replacement => replacement(heap, job),
-        Kind::Permutations => permutations(heap, job),
+        Kind::Product => product(alloc, job),
+        Kind::Combinations => combinations(alloc, job),
+        Kind::Replacement => replacement(alloc, job),
+        Kind::Permutations => permutations(alloc, job),
     }
 }
 
 #[inline(never)]
-fn product(heap: Global, job: Rows) -> Tally {
+fn product(alloc: Global, job: Rows) -> Tally {
     let stop = u64::from(job.pool);
     let pools = (0..job.places).map(move |_| 0..stop);
-    match pools.multi_cartesian_product(heap) {
+    match pools.multi_cartesian_product(alloc) {
         Ok(made) => rows(made, job.most),
         Err(_) => Tally::new(),
     }
 }
 
 #[inline(never)]
-fn combinations(heap: Global, job: Rows) -> Tally {
-    match (0..u64::from(job.pool)).combinations(heap, job.places as usize) {
+fn combinations(alloc: Global, job: Rows) -> Tally {
+    match (0..u64::from(job.pool)).combinations(alloc, job.places as usize) {
         Ok(made) => rows(made, job.most),
         Err(_) => Tally::new(),
     }
 }
 
 #[inline(never)]
-fn replacement(heap: Global, job: Rows) -> Tally {
-    match (0..u64::from(job.pool)).combinations_with_replacement(heap, job.places as usize) {
+fn replacement(alloc: Global, job: Rows) -> Tally {
+    match (0..u64::from(job.pool)).combinations_with_replacement(alloc, job.places as usize) {
         Ok(made) => rows(made, job.most),
         Err(_) => Tally::new(),
     }
 }
 
 #[inline(never)]
-fn permutations(heap: Global, job: Rows) -> Tally {
-    match (0..u64::from(job.pool)).permutations(heap, job.places as usize) {
+fn permutations(alloc: Global, job: Rows) -> Tally {
+    match (0..u64::from(job.pool)).permutations(alloc, job.places as usize) {
         Ok(made) => rows(made, job.most),
         Err(_) => Tally::new(),
     }

@@ -33,15 +33,15 @@ enum Task {
 }
 
 fn main(rt: HostRuntime) -> anyhow::Result<()> {
-    let heap = rt.alloc();
-    match asked(&rt, heap)? {
-        Task::Sums => play_all(&rt, heap, false),
-        Task::Times => play_all(&rt, heap, true),
+    let alloc = rt.alloc();
+    match asked(&rt, alloc)? {
+        Task::Sums => play_all(&rt, alloc, false),
+        Task::Times => play_all(&rt, alloc, true),
         Task::Sizes => Ok(sizes::show_all(&rt)?),
     }
 }
 
-fn asked(rt: &HostRuntime, heap: Global) -> anyhow::Result<Task> {
+fn asked(rt: &HostRuntime, alloc: Global) -> anyhow::Result<Task> {
     let mut args = env::args(rt)?.skip(1);
     let Some(word) = args.next() else {
         return Ok(Task::Sums);
@@ -49,28 +49,28 @@ fn asked(rt: &HostRuntime, heap: Global) -> anyhow::Result<Task> {
     match word.as_str() {
         "--measure" => Ok(Task::Times),
         "--sizes" => Ok(Task::Sizes),
-        _ => bail!(format!(in heap; "{word}: usage: bench [--measure | --sizes] < JOBS")?),
+        _ => bail!(format!(in alloc; "{word}: usage: bench [--measure | --sizes] < JOBS")?),
     }
 }
 
-fn play_all(rt: &HostRuntime, heap: Global, measured: bool) -> anyhow::Result<()> {
-    for line in BufReader::new(heap, rt.stdin())?.split(heap, b'\n') {
+fn play_all(rt: &HostRuntime, alloc: Global, measured: bool) -> anyhow::Result<()> {
+    for line in BufReader::new(alloc, rt.stdin())?.split(alloc, b'\n') {
         let line = line?;
         if !matches!(line.as_slice(), [] | [b'#', ..]) {
             let text = std::str::from_utf8(line.as_slice()).context("a job in other letters")?;
-            run(rt, heap, text, measured)?;
+            run(rt, alloc, text, measured)?;
         }
     }
     Ok(())
 }
 
 // Plays one job on each peer.
-fn run(rt: &HostRuntime, heap: Global, line: &str, measured: bool) -> anyhow::Result<()> {
-    let Some(job) = Job::read(heap, line)? else {
-        bail!(format!(in heap; "no such job: {line}")?);
+fn run(rt: &HostRuntime, alloc: Global, line: &str, measured: bool) -> anyhow::Result<()> {
+    let Some(job) = Job::read(alloc, line)? else {
+        bail!(format!(in alloc; "no such job: {line}")?);
     };
-    let numbers = numbers(heap, job.reach())?;
-    let mut setting = Setting::new(heap, numbers.as_slice());
+    let numbers = numbers(alloc, job.reach())?;
+    let mut setting = Setting::new(alloc, numbers.as_slice());
     for peer in PEERS {
         let name = peer.name();
         if measured {
@@ -87,8 +87,8 @@ fn run(rt: &HostRuntime, heap: Global, line: &str, measured: bool) -> anyhow::Re
 }
 
 // The numbers from 0 to below a stop.
-fn numbers(heap: Global, stop: u64) -> anyhow::Result<Vec<u64>> {
-    let mut list = Vec::new(heap);
+fn numbers(alloc: Global, stop: u64) -> anyhow::Result<Vec<u64>> {
+    let mut list = Vec::new(alloc);
     for number in 0..stop {
         list.push(number)?;
     }

@@ -40,7 +40,7 @@ pub(crate) fn play(setting: &mut Setting, peer: Peer, job: Job) -> Tally {
             Over::Range => items::over_ranges(job),
             Over::List => items::over_lists(numbers, job),
         },
-        (Peer::Kit, Job::Rows(job)) => kit_rows::play(setting.heap, job),
+        (Peer::Kit, Job::Rows(job)) => kit_rows::play(setting.alloc, job),
         (Peer::Kit, Job::Items(job)) => match job.over {
             Over::Range => kit_items::over_ranges(job),
             Over::List => kit_items::over_lists(numbers, job),

@@ -8,16 +8,16 @@ use std::alloc::Global;
 /// compiler leaves out no write to them.
 #[derive(Clone, Copy)]
 pub(crate) struct Setting<'a> {
-    pub(crate) heap: Global,
+    pub(crate) alloc: Global,
     pub(crate) numbers: &'a [u64],
     pub(crate) elements: [u64; MOST_PLACES],
     pub(crate) places: [u16; MOST_PLACES],
 }
 
 impl<'a> Setting<'a> {
-    pub(crate) fn new(heap: Global, numbers: &'a [u64]) -> Setting<'a> {
+    pub(crate) fn new(alloc: Global, numbers: &'a [u64]) -> Setting<'a> {
         Setting {
-            heap,
+            alloc,
             numbers,
             elements: [0; MOST_PLACES],
             places: [0; MOST_PLACES],

@@ -1,5 +1,27 @@
 // What combinations and combinations with replacement have in common: rows whose places climb.
-ghost use Rattle.std.specs.Prelude.{◌≡◌, ℕ, ◌+◌, ◌-◌, ◌^◌, ◌<◌, ◌≤◌, ◌&&◌, nat_lt, nat_le, List, [], ◌∷◌, length, take, MatchOption, MatchResult, ◌≢◌, slice_index, false, is_none};
+ghost use Rattle.std.specs.Prelude.{
+  ◌≡◌,
+  ℕ,
+  ◌+◌,
+  ◌-◌,
+  ◌^◌,
+  ◌<◌,
+  ◌≤◌,
+  ◌&&◌,
+  nat_lt,
+  nat_le,
+  List,
+  [],
+  ◌∷◌,
+  length,
+  take,
+  MatchOption,
+  MatchResult,
+  ◌≢◌,
+  slice_index,
+  false,
+  is_none,
+};
 ghost use Rattle.row_laws.specs.Calls.{Unmade, controller, leaving, other_rows};
 ghost use Rattle.row_laws.specs.Makings.{Made, one_pool_making};
 ghost use Rattle.row_laws.specs.Climbs.{ClimbingRow, ClimbStepped};
@@ -11,8 +33,8 @@ use enumerators::{Choice, MOST_PLACES};
 use std::array::from_fn;
 use steps::Refusal;
 
-// A kind of climbing rows: how far each place has to lie above the first one. Rows that rise have to reach one more at each place, rows
-// that never fall need not.
+// A kind of climbing rows: how far each place has to lie above the first one. Rows that rise have
+// to reach one more at each place, rows that never fall need not.
 pub(crate) trait Climb {
     // how far the place of this number has to lie above the first one
     ghost above: { ℕ → ℕ };
@@ -38,7 +60,8 @@ pub(crate) trait Climb {
     // a row is lawful where its places climb so, and only there
     ghost climbs: { (n r : ℕ) (row : List ℕ) → lawful n r row → ClimbingRow n r above row };
 
-    ghost taken: { (n r : ℕ) (xs : List ℕ) → r ≤ length xs → ClimbingRow n r above xs → lawful n r (take r xs) };
+    ghost taken: { (n r : ℕ) (xs : List ℕ) → r ≤ length xs → ClimbingRow n r above xs
+        → lawful n r (take r xs) };
 }
 
 // There is no row where the last place does not fit though all are as low as they can be.
@@ -51,7 +74,8 @@ fn has_no_row<K: Climb>(choice: Choice) -> bool
 // Each place as low as it can be, where there is a row.
 fn first_row<K: Climb>(choice: Choice) -> Option<[u16; MOST_PLACES]>
     ensures { MatchOption result ((0 < choice.r) × (choice.n ≤ K.above (choice.r - 1)))
-        (λ xs. (0 < choice.r → K.above (choice.r - 1) < choice.n) × (length xs ≡ controller.places) × ((k : ℕ) → k < controller.places → slice_index xs k ≡ K.above k)) }
+        (λ xs. (0 < choice.r → K.above (choice.r - 1) < choice.n) × (length xs ≡ controller.places)
+        × ((k : ℕ) → k < controller.places → slice_index xs k ≡ K.above k)) }
 {
     if has_no_row::<K>(choice) {
         return None;
@@ -59,14 +83,16 @@ fn first_row<K: Climb>(choice: Choice) -> Option<[u16; MOST_PLACES]>
     Some(from_fn(|place| K::lift(place) as u16))
 }
 
-// The last place that is not at its highest, if there is one: the places behind it still have to fit below `n`.
+// The last place that is not at its highest, if there is one: the places behind it still have to
+// fit below `n`.
 fn pivot<K: Climb>(n: usize, r: usize, indices: &[u16]) -> Option<usize>
     requires room { r ≤ length indices.now }
     requires small { (n < 2 ^ 16) × (r < 2 ^ 16) }
     ensures { MatchOption result
         ((k : ℕ) → k < r → slice_index indices.now k + K.above (r - 1) + 1 ≡ n + K.above k)
         (λ i. (i < r) × (slice_index indices.now i + K.above (r - 1) + 1 ≢ n + K.above i)
-        × ((k : ℕ) → i < k → k < r → slice_index indices.now k + K.above (r - 1) + 1 ≡ n + K.above k)) }
+        × ((k : ℕ) → i < k → k < r
+        → slice_index indices.now k + K.above (r - 1) + 1 ≡ n + K.above k)) }
 {
     (0..r).rev().find(|&i| indices[i] as usize + K::lift(r - 1) + 1 != n + K::lift(i))
 }
@@ -77,7 +103,8 @@ fn raise<K: Climb>(r: usize, indices: &mut [u16], i: usize)
     requires small { slice_index indices.old i + r < 2 ^ 16 }
     ensures long { length indices.new ≡ length indices.old }
     ensures front { (k : ℕ) → k < i → slice_index indices.new k ≡ slice_index indices.old k }
-    ensures low { (k : ℕ) → i ≤ k → k < r → slice_index indices.new k + K.above i ≡ slice_index indices.old i + 1 + K.above k }
+    ensures low { (k : ℕ) → i ≤ k → k < r
+        → slice_index indices.new k + K.above i ≡ slice_index indices.old i + 1 + K.above k }
 {
     let raised = indices[i] + 1;
     for (behind, index) in indices[i..r].iter_mut().enumerate() {
@@ -103,7 +130,8 @@ fn step<K: Climb>(n: usize, r: usize, indices: &mut [u16]) -> bool
 // The same over the large array.
 fn step_large<K: Climb>(choice: Choice, indices: &mut [u16; MOST_PLACES]) -> bool
     requires { ClimbingRow choice.n choice.r K.above indices.old }
-    ensures stepped { ClimbStepped choice.n choice.r K.above (K.lawful choice.n choice.r) indices.old indices.new result }
+    ensures stepped { ClimbStepped choice.n choice.r K.above (K.lawful choice.n choice.r)
+        indices.old indices.new result }
     ensures long { length indices.new ≡ controller.places }
 {
     step::<K>(choice.n, choice.r, indices)
@@ -113,7 +141,9 @@ impl Climbing {
     // Stands at the first of the climbing rows of `r` places from a pool of `n` elements.
     pub(crate) fn new<K: Climb>(n: usize, r: usize) -> Result<Climbing, Refusal>
         ensures { MatchResult result
-            (λ s. Climbs K.above s × Made controller (K.lawful n r) (one_pool_making (K.rows n r) n r 0) (shown_by K.rows s))
+            (λ s. Climbs K.above s
+            × Made controller (K.lawful n r) (one_pool_making (K.rows n r) n r 0)
+            (shown_by K.rows s))
             (λ refusal. Unmade controller (n ∷ []) r refusal) }
     {
         let choice = Choice::new(n, r)?;
@@ -133,7 +163,10 @@ impl Climbing {
     // The row at which it stands, if one is left.
     pub(crate) fn row<K: Climb>(&self) -> Option<&[u16]>
         requires { Climbs K.above self.now }
-        ensures { MatchOption result ((shown_by K.rows self.now).ahead ≡ []) (λ row. (shown_by K.rows self.now).ahead ≡ row.now ∷ other_rows (shown_by K.rows self.now).ahead) }
+        ensures { MatchOption result
+            ((shown_by K.rows self.now).ahead ≡ [])
+            (λ row. (shown_by K.rows self.now).ahead
+            ≡ row.now ∷ other_rows (shown_by K.rows self.now).ahead) }
     {
         let indices = self.indices.as_ref()?;
         Some(&indices[0..self.choice.r])

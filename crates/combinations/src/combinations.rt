@@ -41,9 +41,11 @@ impl Climb for Rising {
     }
 }
 
-/// The combinations of `r` from a pool of `n` elements: the rows of `r` rising places below `n`.
+/// The combinations of `r` from a pool of `n` elements: the rows of `r` rising places below `n`, in
+/// lexicographic order. No element of the pool comes twice in a row.
 ///
-/// `combinations 3 2` gives `0 1`, `0 2`, `1 2`; `combinations 2 3` none.
+/// `combinations 3 2` gives `0 1`, `0 2`, `1 2`; `combinations 2 3` none; `combinations 3 0` the
+/// empty row.
 #[derive(Drop)]
 pub struct Combinations {
     climbing: Climbing,
@@ -51,10 +53,12 @@ pub struct Combinations {
 }
 
 impl Combinations {
-    /// Refused by 1 where the pool has more than 256 elements, and then by 2 where a row has more than 64 places.
+    /// Stands before the first row. Refused by 1 where the pool has more than 256 elements, and
+    /// then by 2 where a row has more than 64 places, also where there is no row.
     pub fn new(n: usize, r: usize) -> Result<Combinations, Refusal>
         ensures { MatchResult result
-            (λ e. Made controller (CombinationRow n r) (combination_making n r 0) (⟦<Combinations as Enumerator>⟧.shown e))
+            (λ e. Made controller (CombinationRow n r) (combination_making n r 0)
+            (⟦<Combinations as Enumerator>⟧.shown e))
             (λ refusal. Unmade controller (n ∷ []) r refusal) }
     {
         Ok(Combinations {
@@ -62,10 +66,12 @@ impl Combinations {
         })
     }
 
-    /// Makes the enumerator, and then all the calls on it: a history since the making. Refused as `new` is, with no call made.
+    /// Makes the enumerator, and then all the calls on it, and tells how many they were: a history
+    /// since the making. Refused as `new` is, with no call made.
     pub fn run_calls<T: Copy>(n: usize, r: usize, calls: &mut [Call<T>]) -> Result<usize, Refusal>
         ensures { MatchResult result
-            (λ count. Life controller (CombinationRow n r) (combination_making n r 0) (memories calls.old) (memories calls.new) count)
+            (λ count. Life controller (CombinationRow n r) (combination_making n r 0)
+            (memories calls.old) (memories calls.new) count)
             (λ refusal. Unmade controller (n ∷ []) r refusal × (calls.new ≡ calls.old)) }
     {
         let mut enumerator = Combinations::new(n, r)?;
@@ -98,5 +104,6 @@ impl Enumerator for Combinations {
         }
     }
 
-    ghost fits = { λ s. combinations_fit s.climbing.choice.n s.climbing.choice.r s.climbing.choice.few s.climbing.choice.short s.climbing.indices };
+    ghost fits = { λ s. combinations_fit s.climbing.choice.n s.climbing.choice.r
+        s.climbing.choice.few s.climbing.choice.short s.climbing.indices };
 }

@@ -41,10 +41,11 @@ impl Climb for Level {
     }
 }
 
-/// The combinations of `r` from a pool of `n` elements, each of which may come again: the rows of `r` places below `n`
-/// that never fall.
+/// The combinations of `r` from a pool of `n` elements, each of which may come again: the rows of
+/// `r` places below `n` that never fall, in lexicographic order.
 ///
-/// `replacement 2 2` gives `0 0`, `0 1`, `1 1`; `replacement 0 1` none.
+/// `replacement 2 2` gives `0 0`, `0 1`, `1 1`; `replacement 0 1` none; `replacement 0 0` the empty
+/// row.
 #[derive(Drop)]
 pub struct CombinationsWithReplacement {
     climbing: Climbing,
@@ -52,10 +53,12 @@ pub struct CombinationsWithReplacement {
 }
 
 impl CombinationsWithReplacement {
-    /// Refused by 1 where the pool has more than 256 elements, and then by 2 where a row has more than 64 places.
+    /// Stands before the first row. Refused by 1 where the pool has more than 256 elements, and
+    /// then by 2 where a row has more than 64 places, also where there is no row.
     pub fn new(n: usize, r: usize) -> Result<CombinationsWithReplacement, Refusal>
         ensures { MatchResult result
-            (λ e. Made controller (ReplacementRow n r) (replacement_making n r 0) (⟦<CombinationsWithReplacement as Enumerator>⟧.shown e))
+            (λ e. Made controller (ReplacementRow n r) (replacement_making n r 0)
+            (⟦<CombinationsWithReplacement as Enumerator>⟧.shown e))
             (λ refusal. Unmade controller (n ∷ []) r refusal) }
     {
         Ok(CombinationsWithReplacement {
@@ -63,10 +66,12 @@ impl CombinationsWithReplacement {
         })
     }
 
-    /// Makes the enumerator, and then all the calls on it: a history since the making. Refused as `new` is, with no call made.
+    /// Makes the enumerator, and then all the calls on it, and tells how many they were: a history
+    /// since the making. Refused as `new` is, with no call made.
     pub fn run_calls<T: Copy>(n: usize, r: usize, calls: &mut [Call<T>]) -> Result<usize, Refusal>
         ensures { MatchResult result
-            (λ count. Life controller (ReplacementRow n r) (replacement_making n r 0) (memories calls.old) (memories calls.new) count)
+            (λ count. Life controller (ReplacementRow n r) (replacement_making n r 0)
+            (memories calls.old) (memories calls.new) count)
             (λ refusal. Unmade controller (n ∷ []) r refusal × (calls.new ≡ calls.old)) }
     {
         let mut enumerator = CombinationsWithReplacement::new(n, r)?;
@@ -99,5 +104,6 @@ impl Enumerator for CombinationsWithReplacement {
         }
     }
 
-    ghost fits = { λ s. replacements_fit s.climbing.choice.n s.climbing.choice.r s.climbing.choice.few s.climbing.choice.short s.climbing.indices };
+    ghost fits = { λ s. replacements_fit s.climbing.choice.n s.climbing.choice.r
+        s.climbing.choice.few s.climbing.choice.short s.climbing.indices };
 }

@@ -7,10 +7,12 @@ ghost use Rattle.groups.specs.GroupBy.{standing, below, keying, taking, items_ah
 use crate::groupby::GroupBy;
 use steps::{Answer, Fault, Keying, Source};
 
-/// The items of a group, as a source: a groupby that is lent, with the number of the group. Its steps are what item calls with that
-/// number answer, and the groupby goes on where this source was left.
+/// The items of a group, as a source: a groupby that is lent, with the number of the group. Its
+/// steps are what item calls with that number answer, and the groupby goes on where this source was
+/// left.
 ///
-/// Over the items 5 5 6 5, by the item itself, a pairwise over the first group gives (5, 5) and then says end.
+/// Over the items 5 5 6 5, by the item itself, a pairwise over the first group gives (5, 5) and
+/// then says end.
 #[derive(Drop)]
 pub struct Grouper<'a, S: Source, K: Keying<S::Item>> {
     groups: &'a mut GroupBy<S, K>,
@@ -62,9 +64,11 @@ where
         ensures same_reference { loan self.new ≡ loan self.old }
         ensures holds { number_of self.new ≡ number_of self.old }
         ensures stands { standing (lent self.new)
-            ≡ (taking K.Keying.key S.Source.ahead K.Key.eq (lent self.old) (number_of self.old)).standing }
+            ≡ (taking K.Keying.key S.Source.ahead K.Key.eq (lent self.old)
+            (number_of self.old)).standing }
         ensures below { S.Source.ahead (below (lent self.new))
-            ≡ (taking K.Keying.key S.Source.ahead K.Key.eq (lent self.old) (number_of self.old)).left }
+            ≡ (taking K.Keying.key S.Source.ahead K.Key.eq (lent self.old)
+            (number_of self.old)).left }
         ensures keeps { keying (lent self.new) ≡ keying (lent self.old) }
         ensures rests { is_number (standing (lent self.old)).grouper (number_of self.old) ≡ false
             → lent self.new ≡ lent self.old }

@@ -12,21 +12,27 @@ use steps::{Answer, CallError, Fault, Keying, Source};
 /// What a call asks of a groupby: the next group, or the next item of the group with this number.
 #[derive(Clone, Copy, PartialEq, Eq, Debug)]
 pub enum Ask {
+    /// The next group.
     Group,
+    /// The next item of the group with this number.
     Item(u32),
 }
 
 /// What a call answered.
 #[derive(Clone, Copy, PartialEq, Eq, Debug)]
 pub enum Told<T, Q> {
+    /// The key of a group and its number, or the end, by a group call.
     Opened(Result<Answer<(Q, u32)>, CallError>),
+    /// An item of a group, or the end, by an item call.
     Given(Result<Answer<T>, Fault>),
 }
 
 /// A group call or an item call; once it was made, with what it answered.
 #[derive(Clone, Copy, PartialEq, Eq, Debug)]
 pub struct Call<T, Q> {
+    /// What it asks.
     pub ask: Ask,
+    /// What it answered, once it was made.
     pub told: Option<Told<T, Q>>,
 }
 
@@ -35,7 +41,8 @@ fn make<S: Source, K: Keying<S::Item>>(groups: &mut GroupBy<S, K>, call: &mut Ca
 where
     S::Item: Copy,
     K::Key: Copy,
-    ensures transition { Transition K.Key.eq (shown K.Keying.key S.Source.ahead) groups.old (memory call.old) (memory call.new) groups.new }
+    ensures transition { Transition K.Key.eq (shown K.Keying.key S.Source.ahead) groups.old
+        (memory call.old) (memory call.new) groups.new }
     ensures keeps_loans { S.Source.loans (below groups.new) ≡ S.Source.loans (below groups.old) }
 {
     let told = match call.ask {
@@ -45,7 +52,8 @@ where
     call.told = Some(told);
 }
 
-/// Makes a groupby over the source, and all the calls on it, one after another; each call keeps what it answered.
+/// Makes a groupby over the source, and all the calls on it, one after another; each call keeps
+/// what it answered.
 ///
 /// Nothing is refused but group calls, by 7, where 4,294,967,295 groups were given.
 pub fn run<S: Source, K: Keying<S::Item>>(
@@ -56,7 +64,8 @@ pub fn run<S: Source, K: Keying<S::Item>>(
 where
     S::Item: Copy,
     K::Key: Copy,
-    ensures law { Life K.Key.eq (shown K.Keying.key S.Source.ahead) (K.Keying.key keys) (S.Source.ahead source) (memories calls.old) (memories calls.new) result }
+    ensures law { Life K.Key.eq (shown K.Keying.key S.Source.ahead) (K.Keying.key keys)
+        (S.Source.ahead source) (memories calls.old) (memories calls.new) result }
     ensures keeps_loans { S.Source.loans (below result) ≡ S.Source.loans source }
 {
     let mut groups = GroupBy::new(source, keys);
@@ -66,12 +75,14 @@ where
     groups
 }
 
-/// Whatever calls lead from one state of a groupby to another, each by the contract of the group call or the item call: the law of
-/// histories holds of them. And every list of items with a key for each divides into runs in just one way.
+/// Whatever calls lead from one state of a groupby to another, each by the contract of the group
+/// call or the item call: the law of histories holds of them. And every list of items with a key
+/// for each divides into runs in just one way.
 pub fn every_history<X, T, K: Keying<T>>() -> u8
     ensures result { result ≡ 0 }
     ensures law { (shown : X → Grouping T K.Key) → EveryHistory K.Key.eq shown }
-    ensures division { (key : T → AResult K.Key AFault) (xs : List T) → HasKeys key xs → OneDivision key K.Key.eq xs }
+    ensures division { (key : T → AResult K.Key AFault) (xs : List T) → HasKeys key xs
+        → OneDivision key K.Key.eq xs }
 {
     0
 }

@@ -1,4 +1,5 @@
-// groupby: runs of items with equal keys, each given as a group, and the items of a group as a source.
+// groupby: runs of items with equal keys, each given as a group, and the items of a group as a
+// source.
 
 #![tactic(auto)]
 

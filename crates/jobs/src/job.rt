@@ -1,7 +1,24 @@
-ghost use Rattle.std.specs.Prelude.{◌≡◌, ◌+◌, ◌*◌, ◌≤◌, [], ◌∷◌, ◌++◌, length, take, decimal};
+ghost use Rattle.std.specs.Prelude.{
+  ◌≡◌,
+  ◌+◌,
+  ◌*◌,
+  ◌≤◌,
+  [],
+  ◌∷◌,
+  ◌++◌,
+  length,
+  take,
+  decimal,
+  Ok,
+};
 ghost use Rattle.sources.specs.Frame.{framed};
 ghost use Rattle.row_laws.specs.Calls.{at_front};
-ghost use Rattle.row_laws.specs.Lists.{product_rows, combination_rows, replacement_rows, permutation_rows};
+ghost use Rattle.row_laws.specs.Lists.{
+  product_rows,
+  combination_rows,
+  replacement_rows,
+  permutation_rows,
+};
 ghost use Rattle.jobs.specs.Job.{words, Listed, JobListed, job_step, job_of, answer_text, Answers};
 
 use crate::lengths::write_words;
@@ -13,10 +30,11 @@ use sources::{Cause, Frames, Record, word_of};
 use steps::{CallError, Refusal};
 use text::{write_bytes, write_number};
 
-/// The most bytes that are read of a job: a record that goes on behind them is cut short.
+/// The most bytes that are read of an input: a record that goes on behind them is cut short.
 pub const MOST_INPUT: usize = 4096;
 
-/// The most bytes that are printed for a job: a hundred rows of 64 places, and the last line.
+/// The most bytes that answer a job: the room of a listing of a hundred rows of 64 places and its
+/// last line.
 pub const MOST_TEXT: usize = 25_605;
 
 // The most lengths that a job of a product holds.
@@ -43,6 +61,7 @@ fn list_product(lengths: &[u8], repeat: u16, text: &mut [u8]) -> Result<usize, R
     list(Product::new(&numbers[0..count], u32::from(repeat))?, text)
 }
 
+// Lists combinations.
 fn list_combinations(n: u16, r: u16, text: &mut [u8]) -> Result<usize, Refusal>
     requires room { 25605 ≤ length text.old }
     ensures { Listed (n ∷ []) r (combination_rows n r) result text.old text.new }
@@ -50,6 +69,7 @@ fn list_combinations(n: u16, r: u16, text: &mut [u8]) -> Result<usize, Refusal>
     list(Combinations::new(usize::from(n), usize::from(r))?, text)
 }
 
+// Lists combinations with replacement.
 fn list_replacement(n: u16, r: u16, text: &mut [u8]) -> Result<usize, Refusal>
     requires room { 25605 ≤ length text.old }
     ensures { Listed (n ∷ []) r (replacement_rows n r) result text.old text.new }
@@ -60,6 +80,7 @@ fn list_replacement(n: u16, r: u16, text: &mut [u8]) -> Result<usize, Refusal>
     )
 }
 
+// Lists permutations.
 fn list_permutations(n: u16, r: u16, text: &mut [u8]) -> Result<usize, Refusal>
     requires room { 25605 ≤ length text.old }
     ensures { Listed (n ∷ []) r (permutation_rows n r) result text.old text.new }
@@ -111,14 +132,14 @@ fn list_first(bytes: &[u8], text: &mut [u8]) -> Result<usize, CallError>
 }
 
 // Writes a word and a number behind it, as a line.
-fn write_labelled(text: &mut [u8], label: &[u8], number: u64) -> usize
+fn write_labelled(text: &mut [u8], label: &[u8], number: u64) -> Result<usize, Refusal>
     requires room { length label.now + 21 ≤ length text.old }
-    ensures end { result ≡ length (label.now ++ (decimal number ++ (10 ∷ []))) }
+    ensures end { result ≡ Ok (length (label.now ++ (decimal number ++ (10 ∷ [])))) }
     ensures writes { text.new ≡ at_front (label.now ++ (decimal number ++ (10 ∷ []))) text.old }
 {
-    let at = write_bytes(text, 0, label);
-    let at = write_number(text, at, number);
-    write_bytes(text, at, b"\n")
+    let digits_at = write_bytes(text, 0, label)?;
+    let feed_at = write_number(text, digits_at, number)?;
+    write_bytes(text, feed_at, b"\n")
 }
 
 /// Answers an input with its text, and tells how many bytes that is; the rest of the buffer is as
@@ -141,9 +162,11 @@ pub fn answer(input: &[u8], text: &mut [u8; MOST_TEXT]) -> usize
     let bytes = &input[0..input.len().min(MOST_INPUT)];
     match list_first(bytes, text) {
         Ok(count) => count,
-        Err(CallError::Broken(fault)) => write_labelled(text, b"fault ", u64::from(fault.cause)),
+        Err(CallError::Broken(fault)) => {
+            write_labelled(text, b"fault ", u64::from(fault.cause)).unwrap()
+        }
         Err(CallError::Refused(refusal)) => {
-            write_labelled(text, b"refused ", u64::from(refusal.number()))
+            write_labelled(text, b"refused ", u64::from(refusal.number())).unwrap()
         }
     }
 }

@@ -25,7 +25,7 @@ below_limit : (stop : Option ℕ) (n : ℕ) → below_stop stop n ≡ ltb n (lim
 below_limit None n = refl
 below_limit (Some stop) n = refl
 
-cond_same : {A : Type 0} (b : Bool) (x : A) → cond b x x ≡ x
+pub cond_same : {A : Type 0} (b : Bool) (x : A) → cond b x x ≡ x
 cond_same true x = refl
 cond_same false x = refl
 
@@ -58,7 +58,7 @@ none_past stop step n cur xs k h = sym (cond-false _ _ _ (le-ltb (n + k * step) 
 -- at the item with the next number: it is given, or the numbers behind it are asked for
 module _ {A : Type 0} (stop : Option ℕ) (step n : ℕ) (x : A) (xs : List A) (s : 0 < step) (in64 : n < 2 ^ 64) (lim : limit stop ≤ 2 ^ 64) (lt : n < limit stop)
     (behind : (m cur k : ℕ) → cur ≤ m → m < 2 ^ 64 → Every stop step m cur xs k (slices stop step (Some m) cur (map Ok xs))) where
-  given_here : (k : ℕ) → Every stop step n n (x ∷ xs) k (Ok x ∷ slices stop step (raised n step) (counted (raised n step) n n) (map Ok xs))
+  given_here : (k : ℕ) → Every stop step n n (x ∷ xs) k (Ok x ∷ slices stop step (raised n step) (counted (raised n step) n) (map Ok xs))
   given_here zero =
       let z : n + 0 * step ≡ n = ap (λ u. n + u) (zero-mul step) ∙ omega arith in
       let w : n + 0 * step - n ≡ 0 = omega (arith, z) in
@@ -66,18 +66,18 @@ module _ {A : Type 0} (stop : Option ℕ) (step n : ℕ) (x : A) (xs : List A) (
       sym (cond-true _ _ _ t ∙ ap (λ u. given (slice_get (x ∷ xs) u)) w)
   given_here (suc k) =
       let m : n + suc k * step ≡ n + step + k * step = omega (arith, suc-mul k step) in
-      let on : (n + step < 2 ^ 64) ⊎ (2 ^ 64 ≤ n + step) → Every stop step n n (x ∷ xs) (suc k) (Ok x ∷ slices stop step (raised n step) (counted (raised n step) n n) (map Ok xs)) =
+      let on : (n + step < 2 ^ 64) ⊎ (2 ^ 64 ≤ n + step) → Every stop step n n (x ∷ xs) (suc k) (Ok x ∷ slices stop step (raised n step) (counted (raised n step) n) (map Ok xs)) =
       ⊎_elim
       (λ h.
       let r = raised_some n step s h in
-      ap (λ o. slice_get (slices stop step o (counted o n n) (map Ok xs)) k) r
+      ap (λ o. slice_get (slices stop step o (counted o n) (map Ok xs)) k) r
       ∙ behind (n + step) (n + 1) k (omega arith) h
       ∙ ap (λ o. cond (ltb (n + step + k * step) (limit stop)) (given o) None) (sym (nth_shift x xs (n + step + k * step) n (omega arith)))
       ∙ ap (λ u. cond (ltb u (limit stop)) (given (slice_get (x ∷ xs) (u - n))) None) (sym m))
       (λ h.
       let r = raised_none n step h in
-      ap (λ o. slice_get (slices stop step o (counted o n n) (map Ok xs)) k) r
-      ∙ ap (λ us. slice_get us k) (no_number stop step n (map Ok xs))
+      ap (λ o. slice_get (slices stop step o (counted o n) (map Ok xs)) k) r
+      ∙ ap (λ us. slice_get us k) (no_number stop step 0 (map Ok xs))
       ∙ sym (cond-false _ _ _ (le-ltb (n + suc k * step) (limit stop) (omega (arith, m))))) in
       on (cases_lt (n + step) (2 ^ 64))
 
@@ -86,7 +86,7 @@ pub slices_at : {A : Type 0} (stop : Option ℕ) (step : ℕ) → 0 < step → l
 slices_at stop step s lim [] n cur k h in64 = sym (cond_same (ltb (n + k * step) (limit stop)) None)
 slices_at {A} stop step s lim (x ∷ xs) n cur k h in64 =
     let skipped = slices stop step (Some n) (cur + 1) (map Ok xs) in
-    let kept = Ok x ∷ slices stop step (raised n step) (counted (raised n step) cur n) (map Ok xs) in
+    let kept = Ok x ∷ slices stop step (raised n step) (counted (raised n step) n) (map Ok xs) in
     let Goal : List (Step A) → Type 0 = Every stop step n cur (x ∷ xs) k in
     let rl = reached_limit stop cur (omega arith) in
     let ended : leb (limit stop) cur ≡ true → Goal (cond (reached stop cur) [] (cond (ltb cur n) skipped kept)) =
@@ -103,7 +103,7 @@ slices_at {A} stop step s lim (x ∷ xs) n cur k h in64 =
     (λ l.
     let same : cur ≡ n = omega (arith, ltb-false cur n l) in
     subst Goal (sym (cond-false (ltb cur n) skipped kept l))
-    (subst (λ c. Every stop step n c (x ∷ xs) k (Ok x ∷ slices stop step (raised n step) (counted (raised n step) c n) (map Ok xs))) (sym same)
+    (subst (λ c. Every stop step n c (x ∷ xs) k (Ok x ∷ slices stop step (raised n step) (counted (raised n step) n) (map Ok xs))) (sym same)
     (given_here stop step n x xs s in64 lim (omega (arith, leb-false (limit stop) cur t)) (λ m c j. slices_at stop step s lim xs m c j) k)))
     (cases_Bool (ltb cur n))) in
     ⊎_elim ended going (cases_Bool (leb (limit stop) cur))
@@ -202,13 +202,13 @@ end_past stop step s lim (Err f ∷ ss) n cur h in64 =
 end_past stop step s lim (Ok a ∷ ss) n cur h in64 =
     cond_both (leb stop cur) (Ok a ∷ ss) _ (λ left. left ≡ past (stop - cur) (Ok a ∷ ss))
     (λ t. sym (past_over stop cur (Ok a ∷ ss) (leb-true stop cur t)))
-    (λ t. cond_both (ltb cur n) (slice_end (Some stop) step (Some n) (cur + 1) ss) (slice_end (Some stop) step (raised n step) (counted (raised n step) cur n) ss)
+    (λ t. cond_both (ltb cur n) (slice_end (Some stop) step (Some n) (cur + 1) ss) (slice_end (Some stop) step (raised n step) (counted (raised n step) n) ss)
     (λ left. left ≡ past (stop - cur) (Ok a ∷ ss))
     (λ l. end_past stop step s lim ss n (cur + 1) (omega (arith, ltb-true cur n l)) in64 ∙ sym (past_more stop cur a ss (leb-false stop cur t)))
     (λ l.
     let same : n ≡ cur = omega (arith, ltb-false cur n l) in
     let fit : n + step < 2 ^ 64 = omega (arith, leb-false stop cur t) in
-    ap (λ o. slice_end (Some stop) step o (counted o cur n) ss) (raised_some n step s fit)
+    ap (λ o. slice_end (Some stop) step o (counted o n) ss) (raised_some n step s fit)
     ∙ end_past stop step s lim ss (n + step) (n + 1) (omega arith) fit
     ∙ ap (λ c. past (stop - (c + 1)) ss) same
     ∙ sym (past_more stop cur a ss (leb-false stop cur t))))
@@ -219,12 +219,12 @@ pub end_all : {A : Type 0} (step : ℕ) → 0 < step → (ss : List (Step A)) (n
 end_all step s [] n cur h in64 few = refl
 end_all step s (Err f ∷ ss) n cur h in64 few = end_all step s ss n cur h in64 few
 end_all step s (Ok a ∷ ss) n cur h in64 few =
-    cond_both (ltb cur n) (slice_end None step (Some n) (cur + 1) ss) (slice_end None step (raised n step) (counted (raised n step) cur n) ss) (λ left. left ≡ [])
+    cond_both (ltb cur n) (slice_end None step (Some n) (cur + 1) ss) (slice_end None step (raised n step) (counted (raised n step) n) ss) (λ left. left ≡ [])
     (λ l. end_all step s ss n (cur + 1) (omega (arith, ltb-true cur n l)) in64 (omega arith))
     (λ l.
     let same : n ≡ cur = omega (arith, ltb-false cur n l) in
     let fit : n + step < 2 ^ 64 = omega arith in
-    ap (λ o. slice_end None step o (counted o cur n) ss) (raised_some n step s fit)
+    ap (λ o. slice_end None step o (counted o n) ss) (raised_some n step s fit)
     ∙ end_all step s ss (n + step) (n + 1) (omega arith) fit (omega arith))
 
 pub drawn_by_end : {A : Type 0} (b : Bounds) → 0 < b.step → b.step < 2 ^ 63 → b.start < 2 ^ 63 → limit b.stop ≤ 2 ^ 64 → (below : (stop : ℕ) → b.stop ≡ Some stop → stop < 2 ^ 63) → (ss : List (Step A)) →
@@ -371,16 +371,16 @@ no_run stop step cur (Err f ∷ ss) = refl
 
 run_given : {A : Type 0} (stop : Option ℕ) (step n : ℕ) (x : A) (ss : List (Step A)) → 0 < step →
     ((m cur : ℕ) → cur ≤ m → LeftAt step m cur ss (slice_run stop step (Some m) cur ss)) →
-    LeftAt step n n (Ok x ∷ ss) (record { step = Ok x; left = ss } ∷ slice_run stop step (raised n step) (counted (raised n step) n n) ss)
+    LeftAt step n n (Ok x ∷ ss) (record { step = Ok x; left = ss } ∷ slice_run stop step (raised n step) (counted (raised n step) n) ss)
 run_given stop step n x ss s behind =
-    left_given step n x ss (slice_run stop step (raised n step) (counted (raised n step) n n) ss)
+    left_given step n x ss (slice_run stop step (raised n step) (counted (raised n step) n) ss)
     (⊎_elim
     (λ (h : n + step < 2 ^ 64).
-    subst (λ o. LeftAt step (n + step) (n + 1) ss (slice_run stop step o (counted o n n) ss)) (sym (raised_some n step s h))
+    subst (λ o. LeftAt step (n + step) (n + 1) ss (slice_run stop step o (counted o n) ss)) (sym (raised_some n step s h))
     (behind (n + step) (n + 1) (omega arith)))
     (λ (h : 2 ^ 64 ≤ n + step).
-    subst (λ o. LeftAt step (n + step) (n + 1) ss (slice_run stop step o (counted o n n) ss)) (sym (raised_none n step h))
-    (subst (LeftAt step (n + step) (n + 1) ss) (sym (no_run stop step n ss)) (left_none step (n + step) (n + 1) ss)))
+    subst (λ o. LeftAt step (n + step) (n + 1) ss (slice_run stop step o (counted o n) ss)) (sym (raised_none n step h))
+    (subst (LeftAt step (n + step) (n + 1) ss) (sym (no_run stop step 0 ss)) (left_none step (n + step) (n + 1) ss)))
     (cases_lt (n + step) (2 ^ 64)))
 
 run_at : {A : Type 0} (stop : Option ℕ) (step : ℕ) → 0 < step → (ss : List (Step A)) (n cur : ℕ) → cur ≤ n → LeftAt step n cur ss (slice_run stop step (Some n) cur ss)
@@ -393,11 +393,11 @@ run_at {A} stop step s (Ok x ∷ ss) n cur h =
     cond_both (over stop (Some n) cur) _ _ (LeftAt step n cur (Ok x ∷ ss))
     (λ o. left_none step n cur (Ok x ∷ ss))
     (λ o. cond_both (ltb cur n) (slice_run stop step (Some n) (cur + 1) ss)
-    (record { step = Ok x; left = ss } ∷ slice_run stop step (raised n step) (counted (raised n step) cur n) ss) (LeftAt step n cur (Ok x ∷ ss))
+    (record { step = Ok x; left = ss } ∷ slice_run stop step (raised n step) (counted (raised n step) n) ss) (LeftAt step n cur (Ok x ∷ ss))
     (λ l. let lt = ltb-true cur n l in left_skipped step n cur x ss (slice_run stop step (Some n) (cur + 1) ss) lt (run_at stop step s ss n (cur + 1) (omega arith)))
     (λ l.
     let same : cur ≡ n = omega (arith, ltb-false cur n l) in
-    subst (λ u. LeftAt step n u (Ok x ∷ ss) (record { step = Ok x; left = ss } ∷ slice_run stop step (raised n step) (counted (raised n step) u n) ss)) (sym same)
+    subst (λ u. LeftAt step n u (Ok x ∷ ss) (record { step = Ok x; left = ss } ∷ slice_run stop step (raised n step) (counted (raised n step) n) ss)) (sym same)
     (run_given stop step n x ss s (λ m u. run_at stop step s ss m u))))
 
 -- the law of an islice just made
@@ -427,7 +427,7 @@ faults_kept {A} stop stride (Ok a ∷ ss) next cur =
     cond_two (λ (g l : List (Step A)). faults g ++ faults l ≡ faults ss) (over stop next cur) _ _ _ _ (λ o. refl)
     (λ o. cond_two (λ (g l : List (Step A)). faults g ++ faults l ≡ faults ss) (ltb cur (number next)) _ _ _ _
     (λ l. faults_kept stop stride ss next (cur + 1))
-    (λ l. faults_kept stop stride ss (raised (number next) stride) (counted (raised (number next) stride) cur (number next))))
+    (λ l. faults_kept stop stride ss (raised (number next) stride) (counted (raised (number next) stride) (number next))))
 
 -- the items given are those given over the same list without its faults
 pub items_kept : {A : Type 0} (stop : Option ℕ) (stride : ℕ) (ss : List (Step A)) (next : Option ℕ) (cur : ℕ) →
@@ -441,4 +441,4 @@ items_kept {A} stop stride (Ok a ∷ ss) next cur =
     cond_two (λ (g h : List (Step A)). items g ≡ items h) (over stop next cur) _ _ _ _ (λ o. refl)
     (λ o. cond_two (λ (g h : List (Step A)). items g ≡ items h) (ltb cur (number next)) _ _ _ _
     (λ l. items_kept stop stride ss next (cur + 1))
-    (λ l. ap (λ xs. a ∷ xs) (items_kept stop stride ss (raised (number next) stride) (counted (raised (number next) stride) cur (number next)))))
+    (λ l. ap (λ xs. a ∷ xs) (items_kept stop stride ss (raised (number next) stride) (counted (raised (number next) stride) (number next)))))

@@ -9,6 +9,7 @@ pub mod Islice
 pub mod Compress
 pub mod Accumulate
 pub mod Pairwise
+pub mod Keys
 pub mod ZipLongest
 pub mod Tee
 pub mod Runs

@@ -63,10 +63,10 @@ abbrev pub number : Option ℕ → ℕ
 number None = 0
 number (Some n) = n
 
--- how many items were drawn once number n was given; that is of no use where no next number is left
-abbrev pub counted : Option ℕ → ℕ → ℕ → ℕ
-counted None cur n = cur
-counted (Some m) cur n = n + 1
+-- how many items were drawn once number n was given; where no next number is left, the count is of no use, and 0
+abbrev pub counted : Option ℕ → ℕ → ℕ
+counted None n = 0
+counted (Some m) n = n + 1
 
 -- what an islice has ahead, with cur items drawn and the number of the next item to give
 abbrev pub slices : {A : Type 0} → Option ℕ → ℕ → Option ℕ → ℕ → List (Step A) → List (Step A)
@@ -76,7 +76,7 @@ slices stop step next cur (Ok a ∷ ss) =
     cond (over stop next cur) []
     (cond (nat_lt cur (number next))
     (slices stop step next (cur + 1) ss)
-    (Ok a ∷ slices stop step (raised (number next) step) (counted (raised (number next) step) cur (number next)) ss))
+    (Ok a ∷ slices stop step (raised (number next) step) (counted (raised (number next) step) (number next)) ss))
 
 -- where a call leaves the source and the two counts
 pub record SliceAfter (A : Type 0) : Type 0 where
@@ -92,7 +92,7 @@ slice_after stop step next cur (Ok a ∷ ss) =
     cond (over stop next cur) (record { left = Ok a ∷ ss; next = next; cur = cur })
     (cond (nat_lt cur (number next))
     (slice_after stop step next (cur + 1) ss)
-    (record { left = ss; next = raised (number next) step; cur = counted (raised (number next) step) cur (number next) }))
+    (record { left = ss; next = raised (number next) step; cur = counted (raised (number next) step) (number next) }))
 
 -- what the source has left once the islice has said end
 abbrev pub slice_end : {A : Type 0} → Option ℕ → ℕ → Option ℕ → ℕ → List (Step A) → List (Step A)
@@ -102,7 +102,7 @@ slice_end stop step next cur (Ok a ∷ ss) =
     cond (over stop next cur) (Ok a ∷ ss)
     (cond (nat_lt cur (number next))
     (slice_end stop step next (cur + 1) ss)
-    (slice_end stop step (raised (number next) step) (counted (raised (number next) step) cur (number next)) ss))
+    (slice_end stop step (raised (number next) step) (counted (raised (number next) step) (number next)) ss))
 
 -- the calls of a run, with what each leaves of the source
 abbrev pub slice_run : {A : Type 0} → Option ℕ → ℕ → Option ℕ → ℕ → List (Step A) → List (Call A (List (Step A)))
@@ -112,7 +112,7 @@ slice_run stop step next cur (Ok a ∷ ss) =
     cond (over stop next cur) []
     (cond (nat_lt cur (number next))
     (slice_run stop step next (cur + 1) ss)
-    (record { step = Ok a; left = ss } ∷ slice_run stop step (raised (number next) step) (counted (raised (number next) step) cur (number next)) ss))
+    (record { step = Ok a; left = ss } ∷ slice_run stop step (raised (number next) step) (counted (raised (number next) step) (number next)) ss))
 
 -- Over a source without faults: the k-th item given is the one at start + k * step, where that is below stop.
 abbrev pub below_stop : Option ℕ → ℕ → Bool

@@ -1,11 +1,22 @@
-ghost use Rattle.std.specs.Prelude.{◌≡◌, ℕ, ◌-◌, ◌^◌, ◌<◌, ◌≤◌, length, MatchOption, slice_index, slice_set};
+ghost use Rattle.std.specs.Prelude.{
+  ◌≡◌,
+  ℕ,
+  ◌-◌,
+  ◌^◌,
+  ◌<◌,
+  ◌≤◌,
+  length,
+  MatchOption,
+  slice_index,
+  slice_set,
+};
 ghost use Rattle.row_laws.specs.Calls.{controller};
 ghost use Rattle.row_laws.specs.Cycles.{Cycling, CyclesStepped, rotated};
 
 use enumerators::{Choice, MOST_ELEMENTS, MOST_PLACES};
 
-// What the rows are made from. The row stands at the front of `indices`, which holds every place of the pool; `cycles` has
-// for each place of the row how often it can still be exchanged.
+// What the rows are made from. The row stands at the front of `indices`, which holds every place of
+// the pool; `cycles` has for each place of the row how often it can still be exchanged.
 #[derive(Clone, Copy)]
 pub(crate) struct Cycles {
     pub(crate) indices: [u16; MOST_ELEMENTS],
@@ -30,8 +41,8 @@ impl Cycles {
     }
 }
 
-// All places in rising order, and n, n - 1, n - 2 and so on: before the first row every place can still be exchanged
-// with all behind it.
+// All places in rising order, and n, n - 1, n - 2 and so on: before the first row every place can
+// still be exchanged with all behind it.
 pub(crate) fn begin(n: usize, indices: &mut [u16], cycles: &mut [u16])
     requires small { (n < 2 ^ 16) × (length indices.old ≤ 2 ^ 16) }
     ensures indices { (k : ℕ) → k < length indices.old → slice_index indices.new k ≡ k }
@@ -47,7 +58,8 @@ pub(crate) fn begin(n: usize, indices: &mut [u16], cycles: &mut [u16])
     }
 }
 
-// Counts the last cycle down, and moves left where a counter runs out; `false` where all of them did.
+// Counts the last cycle down, and moves left where a counter runs out; `false` where all of them
+// did.
 pub(crate) fn step(n: usize, r: usize, indices: &mut [u16], cycles: &mut [u16]) -> bool
     requires fitting { r ≤ n }
     requires room { n ≤ length indices.old }
@@ -57,7 +69,6 @@ pub(crate) fn step(n: usize, r: usize, indices: &mut [u16], cycles: &mut [u16]) 
     ensures stepped { CyclesStepped n r indices.old indices.new cycles.new result }
     ensures long { length indices.new ≡ length indices.old }
 {
-    // no `for` over the places: the original's scan is kept as a loop that yields by `break`
     let mut i = r;
     loop {
         if i == 0 {
@@ -74,8 +85,8 @@ pub(crate) fn step(n: usize, r: usize, indices: &mut [u16], cycles: &mut [u16]) 
     }
 }
 
-// A counter that has run out starts again, and the index at `i` moves behind all others, so that they are back in
-// rising order from there on.
+// A counter that has run out starts again, and the index at `i` moves behind all others, so that
+// they are back in rising order from there on.
 #[tactic(auto, using(row_laws::proofs::Cycles::rotated_is))]
 fn rotate(n: usize, i: usize, indices: &mut [u16], cycles: &mut [u16])
     requires room { (i < n) × (n ≤ length indices.old) }

@@ -15,21 +15,26 @@ use crate::state::Standing;
 use enumerators::{Call, Choice, Enumerator, run};
 use steps::Refusal;
 
-/// The permutations of `r` from a pool of `n` elements: the rows of `r` places below `n` that all differ. An absent `r` is `n`.
+/// The permutations of `r` from a pool of `n` elements: the rows of `r` places below `n` that all
+/// differ, in lexicographic order. An absent `r` is `n`.
 ///
-/// `permutations 3 2` gives `0 1`, `0 2`, `1 0`, `1 2`, `2 0`, `2 1`; `permutations 0 0` the empty row.
+/// `permutations 3 2` gives `0 1`, `0 2`, `1 0`, `1 2`, `2 0`, `2 1`; `permutations 2` gives `0 1`,
+/// `1 0`; `permutations 2 3` none; `permutations 0 0` the empty row.
 #[derive(Drop)]
 pub struct Permutations {
     standing: Standing,
     ghost fitting: { ForSome standing.cycles (λ _. standing.choice.r ≤ standing.choice.n) },
-    ghost cycling: { ForSome standing.cycles (λ c. Cycling standing.choice.n standing.choice.r c.indices c.cycles) },
+    ghost cycling: { ForSome standing.cycles
+        (λ c. Cycling standing.choice.n standing.choice.r c.indices c.cycles) },
 }
 
 impl Permutations {
-    /// Refused by 1 where the pool has more than 256 elements, and then by 2 where a row has more than 64 places.
+    /// Stands before the first row. Refused by 1 where the pool has more than 256 elements, and
+    /// then by 2 where a row has more than 64 places: 65 elements with no `r` are refused by 2.
     pub fn new(n: usize, r: Option<usize>) -> Result<Permutations, Refusal>
         ensures { MatchResult result
-            (λ e. Made controller (PermutationRow n (row_length n r)) (permutation_making n (row_length n r) 0)
+            (λ e. Made controller (PermutationRow n (row_length n r))
+            (permutation_making n (row_length n r) 0)
             (⟦<Permutations as Enumerator>⟧.shown e))
             (λ refusal. Unmade controller (n ∷ []) (row_length n r) refusal) }
     {
@@ -42,24 +47,25 @@ impl Permutations {
         })
     }
 
-    /// Makes the permutations, and then all the calls on them: a history since the making. Refused as `new` is, with no call made.
+    /// Makes the permutations, and then all the calls on them, and tells how many they were: a
+    /// history since the making. Refused as `new` is, with no call made.
     pub fn run_calls<T: Copy>(
         n: usize,
         r: Option<usize>,
         calls: &mut [Call<T>],
     ) -> Result<usize, Refusal>
         ensures { MatchResult result
-            (λ count. Life controller (PermutationRow n (row_length n r)) (permutation_making n (row_length n r) 0)
+            (λ count. Life controller (PermutationRow n (row_length n r))
+            (permutation_making n (row_length n r) 0)
             (memories calls.old) (memories calls.new) count)
-            (λ refusal. Unmade controller (n ∷ []) (row_length n r) refusal × (calls.new ≡ calls.old)) }
+            (λ refusal. Unmade controller (n ∷ []) (row_length n r) refusal
+            × (calls.new ≡ calls.old)) }
     {
         let mut enumerator = Permutations::new(n, r)?;
         Ok(run(&mut enumerator, calls))
     }
 }
 
-// It reads like that of a climbing enumerator. One impl for both would take a trait over what stands in the Option, with its law, its list
-// and three functions, and an impl of it for each: more lines than this.
 impl Enumerator for Permutations {
     ghost shown = { λ s. one_pool (permutation_rows s.standing.choice.n s.standing.choice.r)
         s.standing.choice.n s.standing.choice.r (option_map (λ c. c.indices) s.standing.cycles) };
@@ -91,6 +97,7 @@ impl Enumerator for Permutations {
         }
     }
 
-    ghost fits = { λ s. permutations_fit s.standing.choice.n s.standing.choice.r s.standing.choice.few
-        s.standing.choice.short (option_map (λ c. c.indices) s.standing.cycles) };
+    ghost fits = { λ s. permutations_fit s.standing.choice.n s.standing.choice.r
+        s.standing.choice.few s.standing.choice.short
+        (option_map (λ c. c.indices) s.standing.cycles) };
 }

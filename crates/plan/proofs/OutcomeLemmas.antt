@@ -11,6 +11,7 @@ use Rattle.steps.specs.declared.fault.Fault.{Fault}
 use Rattle.laws.specs.Items.{items, faults}
 use Rattle.sources.specs.Records.{records_from}
 use Rattle.sources.specs.declared.block.Block.{Block}
+use Rattle.sources.specs.Cause.{number_text}
 use Rattle.plan.specs.declared.seam.Seam.{Seam}
 use Rattle.plan.specs.declared.seam.Seam.TheVariants.{BayOutOfOrder, Overlap, Gap}
 use Rattle.plan.specs.declared.seam.Joint.{Joint}
@@ -21,7 +22,7 @@ use Rattle.plan.specs.Bays.{beside, descent, with_one, nothing_yet, one_further,
 use Rattle.plan.specs.Pass.{Passes}
 use Rattle.plan.specs.Account.{account_of, all_clear}
 use Rattle.plan.specs.Columns.{padded, bay_text, stay, taken_text}
-use Rattle.plan.specs.Text.{reason_of, block_line, fault_line, seam_line, joint_line, count_line, blocks_line, blocks_text, faults_text, joints_text, account_text}
+use Rattle.plan.specs.Text.{block_line, fault_line, seam_line, joint_line, count_line, blocks_line, blocks_text, faults_text, joints_text, account_text}
 use Rattle.plan.specs.Outcome.{mark, with_reason, failed_line, verdict_line, name_line, report_text, in_line, OneLine, WholeLines, LastLine, HasLine, front, TellsPairs, TellsOrder, over_bays, Tells}
 use Rattle.plan.proofs.PassLemmas.{behind}
 use Rattle.plan.proofs.BaysLemmas.{joints_at, pair_at, each_bay, one_fewer}
@@ -193,9 +194,9 @@ block_said b = block_split (codes "  ") (bay_text b.bay) (codes "  ") (stay b) (
 fault_split : (u p d v c w r f : List ℕ) → u ++ ((p ++ d) ++ (v ++ (c ++ (w ++ (r ++ f))))) ≡ (u ++ (p ++ (d ++ (v ++ (c ++ (w ++ r)))))) ++ f
 fault_split u p d v c w r f = simp append_assoc
 
-fault_said : (f : Fault) → fault_line f ≡ (codes "  byte " ++ (replicate (7 - length (decimal f.place)) 32 ++ (decimal f.place ++ (codes "  cause " ++ (decimal f.cause ++ (codes ": " ++ reason_of f.cause)))))) ++ codes "\n"
+fault_said : (f : Fault) → fault_line f ≡ (codes "  byte " ++ (replicate (7 - length (decimal f.place)) 32 ++ (decimal f.place ++ (codes "  cause " ++ (decimal f.cause ++ (codes ": " ++ number_text f.cause)))))) ++ codes "\n"
 unfolding padded
-fault_said f = fault_split (codes "  byte ") (replicate (7 - length (decimal f.place)) 32) (decimal f.place) (codes "  cause ") (decimal f.cause) (codes ": ") (reason_of f.cause) (codes "\n")
+fault_said f = fault_split (codes "  byte ") (replicate (7 - length (decimal f.place)) 32) (decimal f.place) (codes "  cause ") (decimal f.cause) (codes ": ") (number_text f.cause) (codes "\n")
 
 overlap_split : (u a v s w t x d y k f : List ℕ) → u ++ (a ++ (v ++ (s ++ (w ++ (t ++ (x ++ (d ++ (y ++ (k ++ f))))))))) ≡ ((u ++ (a ++ (v ++ (s ++ (w ++ t))))) ++ (x ++ (d ++ (y ++ k)))) ++ f
 overlap_split u a v s w t x d y k f = simp append_assoc
@@ -220,7 +221,7 @@ block_ended : (b : Block) → Ended (block_line b)
 block_ended b = (codes "  " ++ (bay_text b.bay ++ (codes "  " ++ stay b)), block_said b)
 
 fault_ended : (f : Fault) → Ended (fault_line f)
-fault_ended f = (codes "  byte " ++ (replicate (7 - length (decimal f.place)) 32 ++ (decimal f.place ++ (codes "  cause " ++ (decimal f.cause ++ (codes ": " ++ reason_of f.cause))))), fault_said f)
+fault_ended f = (codes "  byte " ++ (replicate (7 - length (decimal f.place)) 32 ++ (decimal f.place ++ (codes "  cause " ++ (decimal f.cause ++ (codes ": " ++ number_text f.cause))))), fault_said f)
 
 seam_ended : (a b : Block) (until : ℕ) (s : Seam) → Ended (seam_line a b until s)
 seam_ended a b until BayOutOfOrder = (codes "  " ++ (bay_text a.bay ++ (codes "  is followed by bay " ++ (decimal b.bay ++ codes ": out of order"))), order_said a b until)
@@ -460,7 +461,7 @@ tells name bytes text is single =
       blocks = λ k x h. in_b (codes "  " ++ (bay_text x.bay ++ (codes "  " ++ stay x))) (line_at block_line block_ended bs k x (codes "  " ++ (bay_text x.bay ++ (codes "  " ++ stay x))) h (block_said x));
       fault_count = within text (l ++ (a ++ b)) c ((d ++ (e ++ (f ++ g))) ++ v) (codes "faulty records: " ++ decimal (length fs)) (only c (codes "faulty records: " ++ decimal (length fs)) (count_said (codes "faulty records: ") (length fs))) (is ∙ pos_c l a b c d e f g v) to_c;
       broken = λ k x h.
-          let said = codes "  byte " ++ (replicate (7 - length (decimal x.place)) 32 ++ (decimal x.place ++ (codes "  cause " ++ (decimal x.cause ++ (codes ": " ++ reason_of x.cause))))) in
+          let said = codes "  byte " ++ (replicate (7 - length (decimal x.place)) 32 ++ (decimal x.place ++ (codes "  cause " ++ (decimal x.cause ++ (codes ": " ++ number_text x.cause))))) in
           (7 - length (decimal x.place), in_d said (line_at fault_line fault_ended fs k x said h (fault_said x)));
       pairs = λ bay k x y h i.
           let t = tells_pairs bs bay k x y h i in

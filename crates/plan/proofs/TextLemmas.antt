@@ -1,26 +1,16 @@
--- A number that no cause has is told as unknown.
-use Rattle.std.proofs.Common.{◌≡◌, ℕ, false, ◌≢◌, List, [], ◌∷◌, ◌++◌, Option, Some, None, codes, eqb, sym, ap, ◌∙◌, subst, refl}
+-- What was written so far, and what is still to be written.
+use Rattle.std.proofs.Common.{◌≡◌, ℕ, List, [], ◌∷◌, ◌++◌, Option, Some, None, sym, ap, ◌∙◌, subst, refl}
 use Rattle.std.specs.Io.KnownBytes.{Appends}
 use Rattle.std.proofs.KnownBytes.{Appends-nil, Appends-trans}
 use Rattle.std.proofs.lemmas.List.{append_assoc, append-nil}
-use Rattle.std.proofs.lemmas.Bool.{cond-false, ne_eqb}
-use Rattle.sources.specs.declared.cause.Cause.{Cause}
-use Rattle.sources.specs.declared.cause.Cause.TheVariants.{CutHeader, CutPayload, OtherKind, OtherLength, WrongMinutes}
-use Rattle.sources.specs.Cause.{cause_number}
 use Rattle.std.specs.List.{flat_map}
 use Rattle.sources.specs.declared.block.Block.{Block}
 use Rattle.plan.specs.declared.seam.Joint.{Joint}
 use Rattle.plan.specs.declared.bays.Standing.{Standing}
 use Rattle.plan.specs.declared.bays.Laid.{Laid}
 use Rattle.plan.specs.Bays.{beside, descent, with_one, one_further, joints, laid_of}
-use Rattle.plan.specs.Text.{reason_of, joint_line, line_if, laid_lines}
+use Rattle.plan.specs.Text.{joint_line, line_if, laid_lines}
 use Rattle.plan.proofs.BaysLemmas.{same_joints}
-
-pub no_cause : (n : ℕ) → ((cause : Cause) → cause_number cause ≢ n) → codes "unknown" ≡ reason_of n
-no_cause n h =
-    let none : (cause : Cause) → eqb n (cause_number cause) ≡ false = λ cause. ne_eqb n (cause_number cause) (λ e. h cause (sym e)) in
-    sym (cond-false (eqb n 1) _ _ (none CutHeader) ∙ cond-false (eqb n 2) _ _ (none CutPayload) ∙ cond-false (eqb n 3) _ _ (none OtherKind)
-    ∙ cond-false (eqb n 4) _ _ (none OtherLength) ∙ cond-false (eqb n 5) _ _ (none WrongMinutes))
 
 -- what was written so far and what is still to be written make up the whole
 pub record Told (old new : Option (List ℕ)) (whole ahead : List ℕ) : Type 0 where

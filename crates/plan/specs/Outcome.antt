@@ -6,12 +6,13 @@ use Rattle.steps.specs.declared.fault.Fault.{Fault}
 use Rattle.laws.specs.Items.{items, faults}
 use Rattle.sources.specs.Records.{records_from}
 use Rattle.sources.specs.declared.block.Block.{Block}
+use Rattle.sources.specs.Cause.{number_text}
 use Rattle.plan.specs.declared.account.Account.{Account}
 use Rattle.plan.specs.Bays.{latest, of_bay}
 use Rattle.plan.specs.Pass.{Passes, NoTenMinutes}
 use Rattle.plan.specs.Account.{account_of, all_clear}
 use Rattle.plan.specs.Columns.{bay_text, stay, taken_text}
-use Rattle.plan.specs.Text.{reason_of, account_text}
+use Rattle.plan.specs.Text.{account_text}
 
 -- one more reason, behind a colon if it is the first and else behind a comma; none where nothing was found
 abbrev pub mark : List ℕ → List ℕ
@@ -104,7 +105,7 @@ TellsBlocks blocks text =
 abbrev pub TellsFaults : List Fault → List ℕ → Type 0
 TellsFaults fs text =
     (k : ℕ) (f : Fault) → slice_get fs k ≡ Some f →
-    (blanks : ℕ) × HasLine text (codes "  byte " ++ (replicate blanks 32 ++ (decimal f.place ++ (codes "  cause " ++ (decimal f.cause ++ (codes ": " ++ reason_of f.cause))))))
+    (blanks : ℕ) × HasLine text (codes "  byte " ++ (replicate blanks 32 ++ (decimal f.place ++ (codes "  cause " ++ (decimal f.cause ++ (codes ": " ++ number_text f.cause))))))
 
 -- the sum over all bays below a number
 abbrev pub over_bays : (ℕ → ℕ) → ℕ → ℕ

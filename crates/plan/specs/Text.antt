@@ -5,6 +5,7 @@ use Rattle.steps.specs.Steps.{Step}
 use Rattle.steps.specs.declared.fault.Fault.{Fault}
 use Rattle.laws.specs.Items.{items, faults}
 use Rattle.sources.specs.declared.block.Block.{Block}
+use Rattle.sources.specs.Cause.{number_text}
 use Rattle.plan.specs.declared.seam.Seam.{Seam}
 use Rattle.plan.specs.declared.seam.Seam.TheVariants.{BayOutOfOrder, Overlap, Gap}
 use Rattle.plan.specs.declared.seam.Joint.{Joint}
@@ -16,16 +17,8 @@ use Rattle.plan.specs.Bays.{joints, nothing_yet}
 abbrev pub block_line : Block → List ℕ
 block_line b = codes "  " ++ (bay_text b.bay ++ (codes "  " ++ (stay b ++ codes "\n")))
 
-abbrev pub reason_of : ℕ → List ℕ
-reason_of cause =
-    cond (cause == 1) (codes "fewer than four bytes left")
-    (cond (cause == 2) (codes "payload cut short")
-    (cond (cause == 3) (codes "another kind of record")
-    (cond (cause == 4) (codes "payload not of eight bytes")
-    (cond (cause == 5) (codes "end not after start, or after midnight") (codes "unknown")))))
-
 abbrev pub fault_line : Fault → List ℕ
-fault_line f = codes "  byte " ++ (padded 7 f.place ++ (codes "  cause " ++ (decimal f.cause ++ (codes ": " ++ (reason_of f.cause ++ codes "\n")))))
+fault_line f = codes "  byte " ++ (padded 7 f.place ++ (codes "  cause " ++ (decimal f.cause ++ (codes ": " ++ (number_text f.cause ++ codes "\n")))))
 
 -- what is said of two blocks that were laid side by side
 abbrev pub seam_line : Block → Block → ℕ → Seam → List ℕ

@@ -8,14 +8,19 @@ use sources::Records;
 use std::alloc::{AllocError, Global};
 use steps::{Answer, Source};
 
-/// How often each thing was found in a plan. Only `check` makes one.
+/// How often each thing was found in a plan: blocks, faulty records, pairs of neighbours in a bay,
+/// overlaps, bays out of order, and gaps of ten minutes or more. Only `check` makes one.
 #[derive(Clone, Copy, PartialEq, Eq, Debug)]
 pub struct Account {
+    // blocks, and faulty records
     pub(crate) blocks: usize,
     pub(crate) faults: usize,
+    // neighbours in a bay, and those of them that overlap
     pub(crate) pairs: usize,
     pub(crate) overlaps: usize,
+    // blocks at a lower bay than the block before them
     pub(crate) out_of_order: usize,
+    // neighbours with a gap of ten minutes or more
     pub(crate) long_gaps: usize,
 }
 
@@ -52,7 +57,8 @@ impl Account {
     }
 
     /// Whether the plan passes: no record is faulty, no block overlaps the blocks before it in its
-    /// bay, no bay is out of order and no gap is of ten minutes or more.
+    /// bay, no bay is out of order and no gap is of ten minutes or more. A plan without a block and
+    /// without a faulty record passes.
     pub fn passed(self) -> bool
         ensures { result ≡ all_clear self }
     {
@@ -64,13 +70,15 @@ impl Account {
 /// a bay, and what a plan fails for. Two neighbours of a bay are a pair whatever lies between them
 /// in the plan.
 ///
-/// It wants memory for each bay, not for each block; a fault is want of memory alone.
-pub fn check(heap: Global, bytes: &[u8]) -> Result<Account, AllocError>
+/// Of bus 7 at bay 2 from 06:00 to 08:00 and bus 12 there from 06:30 to 07:00 it counts two blocks
+/// and one pair, which overlaps, so that the plan does not pass. It wants memory for each bay, not
+/// for each block; an error is want of memory alone.
+pub fn check(alloc: Global, bytes: &[u8]) -> Result<Account, AllocError>
     ensures counts { IfOk result (λ a. a ≡ account_of (records_from bytes.now 0)) }
-    ensures law { IfOk result (λ a. IsTrue (all_clear a) ↔ Passes (records_from bytes.now 0)) }
+    ensures verdict { IfOk result (λ a. IsTrue (all_clear a) ↔ Passes (records_from bytes.now 0)) }
 {
     let mut records = Records::new(bytes);
-    let mut bays = Bays::new(heap);
+    let mut bays = Bays::new(alloc);
     let mut account = Account::new();
     loop {
         match records.next() {

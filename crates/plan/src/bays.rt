@@ -7,26 +7,31 @@ use sources::Block;
 use std::alloc::{AllocError, Global};
 use std::collections::HashMap;
 
-// How a bay stands: its last block so far, and the latest end of its blocks so far.
+/// How a bay stands after some blocks of it.
 #[derive(Clone, Copy)]
 pub struct Standing {
+    /// Its last block in the order of the plan.
     pub last: Block,
+    /// The latest end of its blocks, in minutes of the day.
     pub until: u16,
 }
 
-// What one more block is laid beside: the block before it in the plan, where that is at a higher
-// bay, and the block before it of its bay.
+/// What one more block is laid beside.
 #[derive(Clone, Copy)]
 pub struct Laid {
+    /// The block before it in the plan, where that is at a higher bay.
     pub descent: Option<Joint>,
+    /// The block before it of its bay, where there is one.
     pub pair: Option<Joint>,
 }
 
-// How the bays of a plan stand after some of its blocks. It holds an entry for each bay and no
-// block more.
+/// How the bays of a plan stand after some of its blocks. It holds an entry for each bay and no
+/// block more.
 #[derive(Drop)]
 pub struct Bays {
+    /// The last block in the order of the plan.
     pub last: Option<Block>,
+    /// How each bay stands of which there was a block, by its number.
     pub standings: HashMap<u16, Standing>,
 }
 
@@ -81,17 +86,19 @@ fn descent_from(before: Option<Block>, block: Block) -> Option<Joint>
 }
 
 impl Bays {
-    pub fn new(heap: Global) -> Bays
+    /// The bays before the first block of a plan.
+    pub fn new(alloc: Global) -> Bays
         ensures first { result.last ≡ None }
         ensures empty { (bay : ℕ) → get nat_eq result.standings bay ≡ nothing_yet bay }
     {
         Bays {
             last: None,
-            standings: HashMap::new(heap),
+            standings: HashMap::new(alloc),
         }
     }
 
-    // Lays one more block beside those before it.
+    /// Lays one more block beside those before it: bus 12 at bay 2 from 06:19 makes a pair with bus
+    /// 7 at bay 2 from 06:00 to 06:10. An error is want of memory alone.
     pub fn lay(&mut self, block: Block) -> Result<Laid, AllocError>
         ensures laid { IfOk result (λ l.
             l ≡ laid_of self.old.last (get nat_eq self.old.standings block.bay) block) }

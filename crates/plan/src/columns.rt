@@ -1,12 +1,12 @@
-// The parts that the lines of an account are made of. Each part tells by itself what it shows, as
-// specs/ says it.
+// The parts that the lines of an account are made of. Each tells by itself what it shows, as specs/
+// says it.
 ghost use Rattle.std.specs.Prelude.{Some};
 ghost use Rattle.plan.specs.Columns.{clock, bay_text, stay, taken_text};
 
 use sources::Block;
 use std::fmt;
 
-// A minute of the day, as hh:mm.
+// A minute of the day, as hh:mm; minute 1,440 is 24:00.
 #[derive(Clone, Copy)]
 struct Clock(u16);
 
@@ -20,7 +20,7 @@ impl fmt::Display for Clock {
     }
 }
 
-// The number of a bay.
+/// The number of a bay, right-aligned in five places: `bay     2`.
 #[derive(Clone, Copy)]
 pub struct Bay(pub u16);
 
@@ -34,7 +34,8 @@ impl fmt::Display for Bay {
     }
 }
 
-// The bus of a block, and from when to when it is charged.
+/// The bus of a block, right-aligned in five places, and from when to when it is charged:
+/// `bus     7  06:00-06:10`.
 #[derive(Clone, Copy)]
 pub struct Stay(pub Block);
 
@@ -49,10 +50,13 @@ impl fmt::Display for Stay {
     }
 }
 
-// Until when a bay is taken, where that is not the end of the block that is shown.
+/// Until when a bay is taken, where that is not the end of the block that is shown:
+/// ` (bay taken until 08:00)`; else nothing.
 #[derive(Clone, Copy)]
 pub struct Taken {
+    /// The end of the block that is shown, in minutes of the day.
     pub end: u16,
+    /// The minute until which its bay is taken.
     pub until: u16,
 }
 

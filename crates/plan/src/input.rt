@@ -12,12 +12,13 @@ use std::error::Error;
 use std::io::{Read, Write};
 use std::{fmt, io};
 
-/// Why there is no report of a plan: it could not be read, or what is to be said of it not be
-/// written. Want of memory is the one before the plan was read to its end, and the other from then
-/// on.
+/// Why there is no report of a plan. It prints `the plan cannot be read: ` or
+/// `the report cannot be written: `, and then the error behind it.
 #[derive(Debug, Drop)]
 pub enum Unreported {
+    /// It could not be read to its end, or memory ran out before that.
     Unread(io::Error),
+    /// The report could not be written, or memory ran out when the plan had been read.
     Unwritten(io::Error),
 }
 
@@ -33,18 +34,19 @@ impl fmt::Display for Unreported {
 impl Error for Unreported {}
 
 // All that a reader has left.
-fn read_whole<R: Read>(heap: Global, input: &mut R) -> io::Result<Vec<u8>>
+fn read_whole<R: Read>(alloc: Global, input: &mut R) -> io::Result<Vec<u8>>
     ensures { IfOk result (λ v. IfSome (R.remaining input.old) (λ bytes. v.items ≡ bytes)) }
 {
-    let mut bytes = Vec::new(heap);
+    let mut bytes = Vec::new(alloc);
     input.read_to_end(&mut bytes)?;
     Ok(bytes)
 }
 
-/// Reads a plan to its end, and reports it under a name. All that the program does with a plan is
-/// this call.
+/// Reads a plan to its end, and reports it under a name, as `report` does: all that the program
+/// does with a plan. Answers what was counted; where there is no report it says why, and the front
+/// of the report may have been written.
 pub fn report_from<R: Read, W: Write>(
-    heap: Global,
+    alloc: Global,
     out: &mut W,
     name: &str,
     input: &mut R,
@@ -56,9 +58,9 @@ pub fn report_from<R: Read, W: Write>(
     ensures law { OnOk result (IfSome (R.remaining input.old) (λ bytes. (text : List ℕ)
         × Appends (W.contents out.old) (W.contents out.new) text × Tells name.now bytes text)) }
 {
-    match read_whole(heap, input) {
+    match read_whole(alloc, input) {
         Err(error) => Err(Unreported::Unread(error)),
-        Ok(bytes) => match report(heap, out, name, bytes.as_slice()) {
+        Ok(bytes) => match report(alloc, out, name, bytes.as_slice()) {
             Err(error) => Err(Unreported::Unwritten(error)),
             Ok(account) => Ok(account),
         },

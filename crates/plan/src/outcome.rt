@@ -27,11 +27,11 @@ use std::io;
 use std::io::Write as _;
 
 // `plan failed`, and the reasons of which there is any, each with how many there are of it.
-fn failed(heap: Global, reasons: &[(usize, &str)]) -> Result<String, AllocError>
+fn failed(alloc: Global, reasons: &[(usize, &str)]) -> Result<String, AllocError>
     ensures { IfOk result (λ s.
         string_bytes s ≡ fold and_reason (codes "plan failed") reasons.now) }
 {
-    let mut line = String::from_str(heap, "plan failed")?;
+    let mut line = String::from_str(alloc, "plan failed")?;
     let mut mark = ": ";
     for &(count, reason) in reasons {
         if count != 0 {
@@ -43,9 +43,9 @@ fn failed(heap: Global, reasons: &[(usize, &str)]) -> Result<String, AllocError>
 }
 
 /// The one line that planners read: `plan passed`, or `plan failed` and why, as in
-/// `plan failed: overlaps 1, gaps of ten minutes or more 2`. A fault is want of memory alone.
+/// `plan failed: overlaps 1, gaps of ten minutes or more 2`. An error is want of memory alone.
 #[tactic(auto, unfolding(crate::specs::Outcome::failed_line))]
-pub fn verdict(heap: Global, account: Account) -> Result<String, AllocError>
+pub fn verdict(alloc: Global, account: Account) -> Result<String, AllocError>
     ensures line { IfOk result (λ s. string_bytes s ≡ verdict_line account) }
     ensures single { IfOk result (λ s. OneLine (string_bytes s)) }
     ensures law { IfOk result (λ s.
@@ -54,10 +54,10 @@ pub fn verdict(heap: Global, account: Account) -> Result<String, AllocError>
         (why : List ℕ) × (string_bytes s ≡ codes "plan failed" ++ why))) }
 {
     if account.passed() {
-        return String::from_str(heap, "plan passed");
+        return String::from_str(alloc, "plan passed");
     }
     failed(
-        heap,
+        alloc,
         &[
             (account.faults, "faulty records"),
             (account.overlaps, "overlaps"),
@@ -69,12 +69,13 @@ pub fn verdict(heap: Global, account: Account) -> Result<String, AllocError>
 
 /// Checks a plan from its record bytes, and writes all that is to be said of it: the plan's name,
 /// its blocks, its faulty records, every two neighbouring blocks of a bay, and the verdict as the
-/// last line.
+/// last line. Under the name `tuesday.plan` a plan of three blocks begins with
+/// `plan: tuesday.plan, 36 bytes` and `blocks: 3`, a line each.
 ///
-/// What is written grows with the plan; what is held in memory grows with its bays. A fault is want
-/// of memory or the writer's own; then the front of the report may have been written.
+/// What is written grows with the plan; what is held in memory grows with its bays. An error is
+/// want of memory or the writer's own; then the front of the report may have been written.
 pub fn report<W: io::Write>(
-    heap: Global,
+    alloc: Global,
     out: &mut W,
     name: &str,
     bytes: &[u8],
@@ -86,11 +87,11 @@ pub fn report<W: io::Write>(
     ensures law { OnOk result ((text : List ℕ)
         × Appends (W.contents out.old) (W.contents out.new) text × Tells name.now bytes.now text) }
 {
-    let account = check(heap, bytes)?;
-    let line = verdict(heap, account)?;
+    let account = check(alloc, bytes)?;
+    let line = verdict(alloc, account)?;
     let size = bytes.len();
     writeln!(out, "plan: {name}, {size} bytes")?;
-    write_account(heap, out, bytes, account)?;
+    write_account(alloc, out, bytes, account)?;
     writeln!(out, "{line}")?;
     Ok(account)
 }

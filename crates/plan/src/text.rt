@@ -3,7 +3,6 @@ ghost use Rattle.std.specs.Io.KnownBytes.{Appends};
 ghost use Rattle.laws.specs.Items.{items as items_of, faults as faults_of};
 ghost use Rattle.sources.specs.Records.{records_from};
 ghost use Rattle.plan.specs.Text.{
-  reason_of,
   block_line,
   fault_line,
   joint_line,
@@ -19,25 +18,11 @@ use crate::account::Account;
 use crate::bays::{Bays, Laid};
 use crate::columns::{Bay, Stay, Taken};
 use crate::seam::{Joint, Seam};
-use sources::{Block, Cause, Records, UnknownCause};
+use sources::{Block, Cause, Records};
 use std::alloc::Global;
 use std::io::Write as _;
 use std::{fmt, io};
 use steps::{Answer, Fault, Source};
-
-// Why a record is faulty.
-fn reason(cause: u16) -> &'static str
-    ensures { result.now ≡ reason_of cause }
-{
-    match Cause::try_from(cause) {
-        Ok(Cause::CutHeader) => "fewer than four bytes left",
-        Ok(Cause::CutPayload) => "payload cut short",
-        Ok(Cause::OtherKind) => "another kind of record",
-        Ok(Cause::OtherLength) => "payload not of eight bytes",
-        Ok(Cause::WrongMinutes) => "end not after start, or after midnight",
-        Err(UnknownCause(_)) => "unknown",
-    }
-}
 
 // The line of a block.
 #[derive(Clone, Copy)]
@@ -61,8 +46,9 @@ impl fmt::Display for FaultLine {
 
     #[tactic(auto, using(crate::proofs::ColumnsLemmas::in_column))]
     fn fmt<W: fmt::Write>(&self, f: &mut fmt::Formatter<W>) -> fmt::Result {
-        let (place, cause, reason) = (self.0.place, self.0.cause, reason(self.0.cause));
-        writeln!(f, "  byte {place:>7}  cause {cause}: {reason}")
+        let (place, cause) = (self.0.place, self.0.cause);
+        let words = Cause::words_of(cause);
+        writeln!(f, "  byte {place:>7}  cause {cause}: {words}")
     }
 }
 
@@ -160,12 +146,12 @@ fn write_faults<W: io::Write>(out: &mut W, bytes: &[u8]) -> io::Result<()>
 }
 
 // A line for every two neighbouring blocks of a bay, and for every bay out of order.
-fn write_neighbours<W: io::Write>(heap: Global, out: &mut W, bytes: &[u8]) -> io::Result<()>
+fn write_neighbours<W: io::Write>(alloc: Global, out: &mut W, bytes: &[u8]) -> io::Result<()>
     ensures { OnOk result (Appends (W.contents out.old) (W.contents out.new)
         (joints_text (items_of (records_from bytes.now 0)))) }
 {
     let mut records = Records::new(bytes);
-    let mut bays = Bays::new(heap);
+    let mut bays = Bays::new(alloc);
     loop {
         match records.next() {
             Ok(Answer::Item(block)) => {
@@ -189,9 +175,13 @@ fn write_block_count<W: io::Write>(out: &mut W, blocks: usize) -> io::Result<()>
     }
 }
 
-// What a plan holds and how its blocks lie, without the verdict.
+/// Writes what a plan holds and how its blocks lie, without the plan's name and the verdict: a line
+/// for each block, for each faulty record, for each two neighbours of a bay and for each bay out of
+/// order, with how many there are. `account` has to be the plan's own.
+///
+/// An error is the writer's, or want of memory for a bay; then the front may have been written.
 pub fn write_account<W: io::Write>(
-    heap: Global,
+    alloc: Global,
     out: &mut W,
     bytes: &[u8],
     account: Account,
@@ -205,6 +195,6 @@ pub fn write_account<W: io::Write>(
     writeln!(out, "faulty records: {faults}")?;
     write_faults(out, bytes)?;
     writeln!(out, "neighbours")?;
-    write_neighbours(heap, out, bytes)?;
+    write_neighbours(alloc, out, bytes)?;
     writeln!(out, "pairs: {pairs}")
 }

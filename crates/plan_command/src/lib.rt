@@ -38,11 +38,11 @@ fn report_on_output<R: Print + AllocGlobal, I: Read>(
     name: &str,
     input: &mut I,
 ) -> Result<Account, Unreported> {
-    let heap = rt.alloc();
-    let mut out = BufWriter::new(heap, io::writer(rt)).map_err(|error| Unreported::Unwritten(
+    let alloc = rt.alloc();
+    let mut out = BufWriter::new(alloc, io::writer(rt)).map_err(|error| Unreported::Unwritten(
         io::Error::from(error),
     ))?;
-    let account = report_from(heap, &mut out, name, input)?;
+    let account = report_from(alloc, &mut out, name, input)?;
     out.flush().map_err(Unreported::Unwritten)?;
     Ok(account)
 }
@@ -103,8 +103,9 @@ fn refuse_all<R: Eprint>(rt: &R) -> ExitCode {
     ExitCode::from(UNREPORTED)
 }
 
-/// Does what the arguments ask for, and answers the status to end with: 0 for a plan that passed, 1
-/// for one that failed, 2 where there is no report; why is told on standard error.
+/// Does what the arguments ask for, as the usage lines say it, and answers the status to end with:
+/// 0 for a plan that passed, 1 for one that failed, 2 where there is no report; why is told on
+/// standard error. With `--sample` it reports the built-in sample, which passes.
 pub fn run<R: Env + Files + Input + Print + Eprint + AllocGlobal>(rt: &R) -> ExitCode {
     let mut buffer = [0u8; LONGEST];
     if !matches!(rt.arg(2, &mut []), Err(FillError::NotPresent)) {

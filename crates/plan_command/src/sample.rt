@@ -1,4 +1,5 @@
-// A small plan that is built in: eight blocks at three bays, as record bytes.
+/// The small plan that `plancheck --sample` reports: eight blocks at three bays, as record bytes.
+/// It passes.
 pub const SAMPLE: [u8; 96] = [
     // bus 101 at bay 1, 04:30 to 06:00
     0x08, 0x00, 0x10, 0x00, 0x65, 0x00, 0x01, 0x00, 0x0e, 0x01, 0x68, 0x01,

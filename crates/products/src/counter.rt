@@ -1,20 +1,35 @@
-ghost use Rattle.std.specs.Prelude.{◌≡◌, ℕ, ◌+◌, ◌%◌, ◌<◌, ◌≤◌, true, false, ◌||◌, length, take, sum, slice_index};
+ghost use Rattle.std.specs.Prelude.{
+  ◌≡◌,
+  ℕ,
+  ◌+◌,
+  ◌%◌,
+  ◌<◌,
+  ◌≤◌,
+  true,
+  false,
+  ◌||◌,
+  length,
+  take,
+  sum,
+  slice_index,
+};
 ghost use Rattle.row_laws.specs.Calls.{controller, most_together};
 ghost use Rattle.row_laws.specs.Carries.{Carried, Inside, some_empty, pool_start};
 
 use crate::pools::Pools;
 use enumerators::MOST_PLACES;
 
-// The places of a product's row: place i runs from 0 to below lengths[i], the last the fastest. Lengths and places are
-// arrays of their own, since the row is lent as a slice of its places. `stop` is a flag beside them, as in the original, whose carry
-// calls itself and sets it where no place is left to raise: in an Option the places would go from under the call at work on them.
-// A plain record, which its crate can copy and write back whole.
+// The places of a product's row: place i runs from 0 to below lengths[i], the last the fastest.
+// Lengths and places are arrays of their own, since the row is lent as a slice of its places.
+// `stop` is set once no place is left to raise. A plain record, which its crate can copy and write
+// back whole.
 #[derive(Clone, Copy)]
 pub(crate) struct Counter {
     // how many elements the pools have together
     pub(crate) size: usize,
     pub(crate) width: usize,
-    // how many pools there are, of those that a place is of; the places after them are of the same pools again
+    // how many pools there are, of those that a place is of; the places after them are of the same
+    // pools again
     pub(crate) pools: usize,
     pub(crate) lengths: [u16; MOST_PLACES],
     pub(crate) starts: [u16; MOST_PLACES],
@@ -34,14 +49,14 @@ pub(crate) struct Counter {
     ghost some: { pools ≤ width },
     ghost looked: { some_empty (take pools lengths) ≡ some_empty (take width lengths) },
     ghost emptied: { empty ≡ some_empty (take width lengths) },
-    ghost inside: { (k : ℕ) → k < width → 0 < slice_index lengths k → slice_index idxs k < slice_index lengths k },
+    ghost inside: { (k : ℕ) → k < width → 0 < slice_index lengths k
+        → slice_index idxs k < slice_index lengths k },
 }
 
 // Whether one of the pools is empty.
 fn has_empty(lengths: &[u16]) -> bool
     ensures { result ≡ some_empty lengths.now }
 {
-    // no `any`: the original's `for` over the pools is kept, which stops at an empty one
     for length in lengths {
         if *length == 0 {
             return true;
@@ -50,15 +65,17 @@ fn has_empty(lengths: &[u16]) -> bool
     false
 }
 
-// Raises the place `cur`. One at its last element goes back to 0, and the rule applies again to the place before it; `false` where no
-// place is left to raise.
+// Raises the place `cur`. One at its last element goes back to 0, and the rule applies again to the
+// place before it; `false` where no place is left to raise.
 fn carry(lengths: &[u16], idxs: &mut [u16], cur: usize) -> bool
     requires room { (cur < length lengths.now) × (cur < length idxs.old) }
     requires inside { (k : ℕ) → k ≤ cur → slice_index idxs.old k < slice_index lengths.now k }
     ensures long { length idxs.new ≡ length idxs.old }
     ensures raised { result ≡ true → (j : ℕ) × Carried lengths.now idxs.old idxs.new cur j }
-    ensures ended { result ≡ false → (k : ℕ) → k ≤ cur → slice_index idxs.old k + 1 ≡ slice_index lengths.now k }
-    ensures inside { (k : ℕ) → slice_index idxs.old k < slice_index lengths.now k → slice_index idxs.new k < slice_index lengths.now k }
+    ensures ended { result ≡ false → (k : ℕ) → k ≤ cur
+        → slice_index idxs.old k + 1 ≡ slice_index lengths.now k }
+    ensures inside { (k : ℕ) → slice_index idxs.old k < slice_index lengths.now k
+        → slice_index idxs.new k < slice_index lengths.now k }
 {
     if idxs[cur] + 1 == lengths[cur] {
         if cur == 0 {
@@ -73,13 +90,16 @@ fn carry(lengths: &[u16], idxs: &mut [u16], cur: usize) -> bool
 }
 
 impl Counter {
-    // All places at 0, and `cur` at the last of them; one below zero, by wrapping, where there is none.
+    // All places at 0, and `cur` at the last of them; one below zero, by wrapping, where there is
+    // none.
     pub(crate) fn new(pools: &Pools) -> Counter
         ensures size { result.size ≡ sum pools.now.lengths.now }
         ensures width { result.width ≡ pools.now.width }
         ensures lengths { (k : ℕ) → k < pools.now.width
-            → slice_index result.lengths k ≡ slice_index pools.now.lengths.now (k % length pools.now.lengths.now) }
-        ensures starts { (k : ℕ) → k < pools.now.width → slice_index result.starts k ≡ pool_start pools.now.lengths.now k }
+            → slice_index result.lengths k
+            ≡ slice_index pools.now.lengths.now (k % length pools.now.lengths.now) }
+        ensures starts { (k : ℕ) → k < pools.now.width
+            → slice_index result.starts k ≡ pool_start pools.now.lengths.now k }
         ensures zeros { (k : ℕ) → k < pools.now.width → slice_index result.idxs k ≡ 0 }
         ensures wrapped { pools.now.width ≡ 0 → result.cur ≡ usize.MAX }
         ensures started { result.stop ≡ false }
@@ -115,9 +135,11 @@ impl Counter {
         self.stop || self.empty
     }
 
-    // Raises the last place, by the carry; where no place is left to raise, there is no row any more.
+    // Raises the last place, by the carry; where no place is left to raise, there is no row any
+    // more.
     pub(crate) fn update_idxs(&mut self)
-        requires { (self.old.stop ≡ false) × (Inside self.old.width self.old.lengths self.old.idxs) }
+        requires { (self.old.stop ≡ false)
+            × (Inside self.old.width self.old.lengths self.old.idxs) }
         ensures size { self.new.size ≡ self.old.size }
         ensures width { self.new.width ≡ self.old.width }
         ensures lengths { self.new.lengths ≡ self.old.lengths }

@@ -1,5 +1,25 @@
-ghost use Rattle.std.specs.Prelude.{◌≡◌, ℕ, ◌*◌, ◌%◌, ◌<◌, ◌≤◌, min, false, length, sum, None, MatchResult, slice_index};
-ghost use Rattle.row_laws.specs.Calls.{some_above, controller, most_together, refusal_of_making, Unmade};
+ghost use Rattle.std.specs.Prelude.{
+  ◌≡◌,
+  ℕ,
+  ◌*◌,
+  ◌%◌,
+  ◌<◌,
+  ◌≤◌,
+  min,
+  false,
+  length,
+  sum,
+  None,
+  MatchResult,
+  slice_index,
+};
+ghost use Rattle.row_laws.specs.Calls.{
+  some_above,
+  controller,
+  most_together,
+  refusal_of_making,
+  Unmade,
+};
 ghost use Rattle.row_laws.specs.Carries.{pool_start};
 
 use enumerators::check_limits;
@@ -21,7 +41,8 @@ impl<'a> Pools<'a> {
     // Pools of these lengths, `repeat` times over; refused where they pass the limits.
     pub(crate) fn new(lengths: &'a [usize], repeat: u32) -> Result<Pools<'a>, Refusal>
         ensures { MatchResult result
-            (λ p. (refusal_of_making controller lengths.now (length lengths.now * repeat) ≡ None) × (p.lengths.now ≡ lengths.now) × (p.width ≡ length lengths.now * repeat))
+            (λ p. (refusal_of_making controller lengths.now (length lengths.now * repeat) ≡ None)
+            × (p.lengths.now ≡ lengths.now) × (p.width ≡ length lengths.now * repeat))
             (λ refusal. Unmade controller lengths.now (length lengths.now * repeat) refusal) }
     {
         let width = row_length(lengths.len(), repeat);
@@ -42,18 +63,21 @@ impl<'a> Pools<'a> {
         requires { self.now.width ≤ length lengths.old }
         ensures long { length lengths.new ≡ length lengths.old }
         ensures at { (k : ℕ) → k < self.now.width
-            → slice_index lengths.new k ≡ slice_index self.now.lengths.now (k % length self.now.lengths.now) }
+            → slice_index lengths.new k
+            ≡ slice_index self.now.lengths.now (k % length self.now.lengths.now) }
     {
         for (i, length) in lengths[0..self.width].iter_mut().enumerate() {
             *length = self.lengths[i % self.lengths.len()] as u16;
         }
     }
 
-    // Writes where the pool of each place starts in the list that holds the pools one after another.
+    // Writes where the pool of each place starts in the list that holds the pools one after
+    // another.
     pub(crate) fn write_starts(&self, starts: &mut [u16])
         requires { self.now.width ≤ length starts.old }
         ensures long { length starts.new ≡ length starts.old }
-        ensures at { (k : ℕ) → k < self.now.width → slice_index starts.new k ≡ pool_start self.now.lengths.now k }
+        ensures at { (k : ℕ) → k < self.now.width
+            → slice_index starts.new k ≡ pool_start self.now.lengths.now k }
     {
         for (i, start) in starts[0..self.width].iter_mut().enumerate() {
             *start = total(&self.lengths[0..i % self.lengths.len()]) as u16;

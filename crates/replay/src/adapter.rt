@@ -10,7 +10,7 @@ use rules::{Larger, Sum};
 use sources::Script;
 
 impl Player {
-    // `takewhile P ; STEPS`
+    /// `takewhile P ; STEPS`
     pub fn takewhile(&mut self, rule: &str, ahead: &str) -> Result<(), Flaw> {
         let predicate = rule::read_below(rule)?;
         self.over(ahead, |source, out| {
@@ -18,7 +18,7 @@ impl Player {
         })
     }
 
-    // `dropwhile P ; STEPS`
+    /// `dropwhile P ; STEPS`
     pub fn dropwhile(&mut self, rule: &str, ahead: &str) -> Result<(), Flaw> {
         let predicate = rule::read_below(rule)?;
         self.over(ahead, |source, out| {
@@ -26,26 +26,27 @@ impl Player {
         })
     }
 
-    // `chain ; STEPS ; STEPS`
+    /// `chain ; STEPS ; STEPS`
     pub fn chain(&mut self, first: &str, second: &str) -> Result<(), Flaw> {
         self.over_both(first, second, |first, second, out| {
             play(&mut Chain::new(first, second), out)
         })
     }
 
-    // `islice A1,A2,.. ; STEPS`, not by `over`, since after a refusal nothing is said of the steps left
+    // not by `over`, since after a refusal nothing is said of the steps left
+    /// `islice A1,A2,.. ; STEPS`
     pub fn islice(&mut self, arguments: &str, ahead: &str) -> Result<(), Flaw> {
-        let arguments = entries(self.heap, arguments)?;
-        let ahead = steps(self.heap, ahead)?;
+        let arguments = entries(self.alloc, arguments)?;
+        let ahead = steps(self.alloc, ahead)?;
         let mut source = Script::new(ahead.as_slice());
         match Islice::new(&mut source, arguments.as_slice()) {
             Ok(mut slice) => play(&mut slice, &mut self.out)?,
-            Err((refusal, _)) => return refusal.show(&mut self.out),
+            Err(error) => return error.refusal.show(&mut self.out),
         }
         Left(source.left()).show(&mut self.out)
     }
 
-    // `compress P ; STEPS ; STEPS`, the data and the selectors
+    /// `compress P ; STEPS ; STEPS`, the data and the selectors
     pub fn compress(&mut self, rule: &str, items: &str, selectors: &str) -> Result<(), Flaw> {
         let predicate = rule::read_nonzero(rule)?;
         self.over_both(items, selectors, |items, selectors, out| {
@@ -53,7 +54,7 @@ impl Player {
         })
     }
 
-    // `accumulate J I ; STEPS`
+    /// `accumulate J I ; STEPS`
     pub fn accumulate(&mut self, joining: &str, initial: &str, ahead: &str) -> Result<(), Flaw> {
         let initial = optional(initial, "-")?;
         self.over(ahead, |source, out| match joining {
@@ -63,12 +64,12 @@ impl Player {
         })
     }
 
-    // `pairwise ; STEPS`
+    /// `pairwise ; STEPS`
     pub fn pairwise(&mut self, ahead: &str) -> Result<(), Flaw> {
         self.over(ahead, |source, out| play(&mut Pairwise::new(source), out))
     }
 
-    // `zip_longest F G ; STEPS ; STEPS`, the left and the right fill
+    /// `zip_longest F G ; STEPS ; STEPS`, the left and the right fill
     pub fn zip_longest(
         &mut self,
         left_fill: &str,
@@ -92,20 +93,20 @@ impl Player {
         F: FnOnce(&mut Script<'_, u64>, &mut String) -> Result<(), Flaw>,
         requires { F.IsAlwaysCallable played }
     {
-        let ahead = steps(self.heap, ahead)?;
+        let ahead = steps(self.alloc, ahead)?;
         let mut source = Script::new(ahead.as_slice());
         played(&mut source, &mut self.out)?;
         Left(source.left()).show(&mut self.out)
     }
 
-    // The same over two sources. A function of its own, since what is played takes one source or two, and says what is left of each.
+    // The same over two sources, of each of which it says how many steps are left.
     fn over_both<F>(&mut self, first: &str, second: &str, played: F) -> Result<(), Flaw>
     where
         F: FnOnce(&mut Script<'_, u64>, &mut Script<'_, u64>, &mut String) -> Result<(), Flaw>,
         requires { F.IsAlwaysCallable played }
     {
-        let first = steps(self.heap, first)?;
-        let second = steps(self.heap, second)?;
+        let first = steps(self.alloc, first)?;
+        let second = steps(self.alloc, second)?;
         let mut first = Script::new(first.as_slice());
         let mut second = Script::new(second.as_slice());
         played(&mut first, &mut second, &mut self.out)?;

@@ -21,22 +21,22 @@ const LONGEST_POOL: usize = 16_384;
 const UNTOUCHED: u16 = 7777;
 
 impl Player {
-    // `product Q L1,L2,.. ; CALLS`
+    /// `product Q L1,L2,.. ; CALLS`
     pub fn product(&mut self, repeat: &str, pools: &str, calls: &str) -> Result<(), Flaw> {
-        self.make_calls(make_product(self.heap, repeat, pools)?, calls)
+        self.make_calls(make_product(self.alloc, repeat, pools)?, calls)
     }
 
-    // `combinations N R ; CALLS`
+    /// `combinations N R ; CALLS`
     pub fn combinations(&mut self, n: &str, r: &str, calls: &str) -> Result<(), Flaw> {
         self.make_calls(make_combinations(n, r)?, calls)
     }
 
-    // `replacement N R ; CALLS`
+    /// `replacement N R ; CALLS`
     pub fn replacement(&mut self, n: &str, r: &str, calls: &str) -> Result<(), Flaw> {
         self.make_calls(make_replacement(n, r)?, calls)
     }
 
-    // `permutations N R ; CALLS`, where R may be `-`
+    /// `permutations N R ; CALLS`, where R may be `-`
     pub fn permutations(&mut self, n: &str, r: &str, calls: &str) -> Result<(), Flaw> {
         self.make_calls(make_permutations(n, r)?, calls)
     }
@@ -47,8 +47,8 @@ impl Player {
         made: Result<E, Refusal>,
         calls: &str,
     ) -> Result<(), Flaw> {
-        let heap = self.heap;
-        let loans = read_loans(heap, calls)?;
+        let alloc = self.alloc;
+        let loans = read_loans(alloc, calls)?;
         let mut enumerator = match made {
             Ok(enumerator) => enumerator,
             Err(refusal) => return refusal.show(&mut self.out),
@@ -60,28 +60,30 @@ impl Player {
         };
         let mut calls: Vec<Call<u64>> = loans
             .iter()
-            .map(|loan| lend(heap, loan.unwrap_or(fitting)))
-            .try_collect(heap)?;
+            .map(|loan| lend(alloc, loan.unwrap_or(fitting)))
+            .try_collect(alloc)?;
         run(&mut enumerator, calls.as_mut_slice());
         show_calls(calls.as_slice(), &mut self.out)
     }
 }
 
-// What the making that words tell of gives, which may be a refusal.
+/// What `product Q L1,L2,..` makes, or its refusal.
 pub fn make_product(
-    heap: Global,
+    alloc: Global,
     repeat: &str,
     pools: &str,
 ) -> Result<Result<Product, Refusal>, Flaw> {
     let repeat = number32(repeat)?;
-    let lengths = lengths(heap, pools)?;
+    let lengths = lengths(alloc, pools)?;
     Ok(Product::new(lengths.as_slice(), repeat))
 }
 
+/// What `combinations N R` makes, or its refusal.
 pub fn make_combinations(n: &str, r: &str) -> Result<Result<Combinations, Refusal>, Flaw> {
     Ok(Combinations::new(number(n)? as usize, number(r)? as usize))
 }
 
+/// What `replacement N R` makes, or its refusal.
 pub fn make_replacement(
     n: &str,
     r: &str,
@@ -89,6 +91,7 @@ pub fn make_replacement(
     Ok(CombinationsWithReplacement::new(number(n)? as usize, number(r)? as usize))
 }
 
+/// What `permutations N R` makes, or its refusal.
 pub fn make_permutations(n: &str, r: &str) -> Result<Result<Permutations, Refusal>, Flaw> {
     let n = number(n)? as usize;
     let r = optional(r, "-")?.map(|r| r as usize);
@@ -104,8 +107,8 @@ struct Loan {
 }
 
 // The loans of calls, one to a word.
-fn read_loans(heap: Global, part: &str) -> Result<Vec<Option<Loan>>, Flaw> {
-    part.split(' ').map(read_loan).try_collect(heap)
+fn read_loans(alloc: Global, part: &str) -> Result<Vec<Option<Loan>>, Flaw> {
+    part.split(' ').map(read_loan).try_collect(alloc)
 }
 
 // `n:P:A:E`, or `n` for what fits.
@@ -122,15 +125,15 @@ fn read_loan(word: &str) -> Result<Option<Loan>, Flaw> {
     }))
 }
 
-// A call that is still to be made. A pool that is longer than any enumerator was made for is cut there, since it is refused
-// whatever its length.
-fn lend(heap: Global, loan: Loan) -> Result<Call<u64>, Flaw> {
+// A call that is still to be made. A pool that is longer than any enumerator was made for is cut
+// there, since it is refused whatever its length.
+fn lend(alloc: Global, loan: Loan) -> Result<Call<u64>, Flaw> {
     let elements = loan.pool.min(LONGEST_POOL + 1);
-    let pool = (FIRST_ELEMENT..FIRST_ELEMENT + elements as u64).collect(heap)?;
+    let pool = (FIRST_ELEMENT..FIRST_ELEMENT + elements as u64).collect(alloc)?;
     Ok(Call {
         pool,
-        places: vec![in heap; UNTOUCHED; loan.places]?,
-        elements: vec![in heap; u64::from(UNTOUCHED); loan.elements]?,
+        places: vec![in alloc; UNTOUCHED; loan.places]?,
+        elements: vec![in alloc; u64::from(UNTOUCHED); loan.elements]?,
         answer: None,
     })
 }

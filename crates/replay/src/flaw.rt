@@ -5,18 +5,17 @@ use std::alloc::{AllocError, AllocFailed};
 use std::num::{ParseIntError, TryFromIntError};
 use std::{fmt, io};
 
-// Why a scenario was not played to its end.
+/// Why a scenario was not played to its end.
 #[derive(Debug, Drop)]
 pub enum Flaw {
-    // the line is not of a form that the program knows
+    /// The line is not of a form that the program knows.
     Form,
-    // there was no memory for what was read or written
+    /// There was no memory for what was read or written.
     Memory,
-    // the answers were not taken
+    /// The answers were not taken.
     Output(io::Error),
 }
 
-// Written out, not derived by thiserror: most of these drop what they are made from, and a flaw has no text of its own.
 impl From<AllocError> for Flaw {
     ghost from_gives = { λ _ flaw. flaw ≡ Memory };
 

@@ -5,17 +5,17 @@ use crate::flaw::Flaw;
 use std::alloc::{AllocError, Global};
 use steps::{Fault, Step};
 
-// The parts of a line.
-pub fn parts<'a>(heap: Global, line: &'a str) -> Result<Vec<&'a str>, AllocError> {
-    line.split(" ; ").collect(heap)
+/// The parts of a line.
+pub fn parts<'a>(alloc: Global, line: &'a str) -> Result<Vec<&'a str>, AllocError> {
+    line.split(" ; ").collect(alloc)
 }
 
-// The words of a part. An empty word is none that any form has.
-pub fn words<'a>(heap: Global, part: &'a str) -> Result<Vec<&'a str>, AllocError> {
-    part.split(' ').collect(heap)
+/// The words of a part. An empty word is none that any form has.
+pub fn words<'a>(alloc: Global, part: &'a str) -> Result<Vec<&'a str>, AllocError> {
+    part.split(' ').collect(alloc)
 }
 
-// The number that decimal digits spell, where 64 bits hold it; a sign is none of them.
+/// The number that decimal digits spell, where 64 bits hold it; a sign is none of them.
 pub fn number(word: &str) -> Result<u64, Flaw>
     ensures { Spelled 64 word.now result }
 {
@@ -25,7 +25,7 @@ pub fn number(word: &str) -> Result<u64, Flaw>
     }
 }
 
-// The same in fewer bits. One function for the three would need a trait for their width and value, and be longer than they are.
+/// The same where 32 bits hold it.
 pub fn number32(word: &str) -> Result<u32, Flaw>
     ensures { Spelled 32 word.now result }
 {
@@ -44,7 +44,7 @@ fn number8(word: &str) -> Result<u8, Flaw>
     Ok(u8::try_from(number(word)?)?)
 }
 
-// A number, or nothing where the word is the mark of an absent one.
+/// A number, or nothing where the word is the mark of an absent one.
 pub fn optional(word: &str, mark: &str) -> Result<Option<u64>, Flaw> {
     if word == mark {
         return Ok(None);
@@ -54,7 +54,7 @@ pub fn optional(word: &str, mark: &str) -> Result<Option<u64>, Flaw> {
 
 // The values of a list, each read from a word; `-` alone is the empty list.
 fn listed<T: Drop, F: FnMut(&str) -> Result<T, Flaw>>(
-    heap: Global,
+    alloc: Global,
     list: &str,
     separator: char,
     read: F,
@@ -62,24 +62,24 @@ fn listed<T: Drop, F: FnMut(&str) -> Result<T, Flaw>>(
     requires { (state : F) (word : _) → F.pre state word }
 {
     if list == "-" {
-        return Ok(Vec::new(heap));
+        return Ok(Vec::new(alloc));
     }
-    list.split(separator).map(read).try_collect(heap)
+    list.split(separator).map(read).try_collect(alloc)
 }
 
-// The entries between commas, each a number or `_` for an absent one.
-pub fn entries(heap: Global, word: &str) -> Result<Vec<Option<u64>>, Flaw> {
-    listed(heap, word, ',', |entry| optional(entry, "_"))
+/// The entries between commas, each a number or `_` for an absent one.
+pub fn entries(alloc: Global, word: &str) -> Result<Vec<Option<u64>>, Flaw> {
+    listed(alloc, word, ',', |entry| optional(entry, "_"))
 }
 
-// The lengths of pools between commas.
-pub fn lengths(heap: Global, word: &str) -> Result<Vec<usize>, Flaw> {
-    listed(heap, word, ',', |length| Ok(number(length)? as usize))
+/// The lengths of pools between commas.
+pub fn lengths(alloc: Global, word: &str) -> Result<Vec<usize>, Flaw> {
+    listed(alloc, word, ',', |length| Ok(number(length)? as usize))
 }
 
-// The steps that a source has ahead, one to a word.
-pub fn steps(heap: Global, part: &str) -> Result<Vec<Step<u64>>, Flaw> {
-    listed(heap, part, ' ', step)
+/// The steps that a source has ahead, one to a word.
+pub fn steps(alloc: Global, part: &str) -> Result<Vec<Step<u64>>, Flaw> {
+    listed(alloc, part, ' ', step)
 }
 
 // An item is a number, a fault three numbers after `!`.
@@ -99,19 +99,19 @@ fn fault(numbers: &str) -> Result<Fault, Flaw> {
     })
 }
 
-// Three words with colons between them.
+/// Three words with colons between them.
 pub fn triple<'a>(numbers: &'a str) -> Result<(&'a str, &'a str, &'a str), Flaw> {
     let (first, rest) = numbers.split_once(':').ok_or(Flaw::Form)?;
     let (second, third) = rest.split_once(':').ok_or(Flaw::Form)?;
     Ok((first, second, third))
 }
 
-// The bytes that pairs of hexadecimal digits spell; `-` alone for none.
-pub fn bytes(heap: Global, word: &str) -> Result<Vec<u8>, Flaw> {
+/// The bytes that pairs of hexadecimal digits spell; `-` alone for none.
+pub fn bytes(alloc: Global, word: &str) -> Result<Vec<u8>, Flaw> {
     match word {
-        "-" => Ok(Vec::new(heap)),
+        "-" => Ok(Vec::new(alloc)),
         "" => Err(Flaw::Form),
-        _ => word.as_bytes().chunks(2).map(byte).try_collect(heap),
+        _ => word.as_bytes().chunks(2).map(byte).try_collect(alloc),
     }
 }
 

@@ -12,7 +12,7 @@ use std::alloc::Global;
 use steps::Keying;
 
 impl Player {
-    // `groupby K ; STEPS ; CALLS`
+    /// `groupby K ; STEPS ; CALLS`
     pub fn groupby(&mut self, key: &str, ahead: &str, calls: &str) -> Result<(), Flaw> {
         match key {
             "self" => self.group_calls(Itself, ahead, calls),
@@ -27,8 +27,8 @@ impl Player {
         ahead: &str,
         calls: &str,
     ) -> Result<(), Flaw> {
-        let ahead = steps(self.heap, ahead)?;
-        let mut calls = read_calls(self.heap, calls)?;
+        let ahead = steps(self.alloc, ahead)?;
+        let mut calls = read_calls(self.alloc, calls)?;
         let mut source = Script::new(ahead.as_slice());
         run(&mut source, keys, calls.as_mut_slice());
         show_calls(calls.as_slice(), &mut self.out)?;
@@ -37,8 +37,8 @@ impl Player {
 }
 
 // The calls, one to a word.
-fn read_calls(heap: Global, part: &str) -> Result<Vec<Call<u64, u64>>, Flaw> {
-    part.split(' ').map(read_call).try_collect(heap)
+fn read_calls(alloc: Global, part: &str) -> Result<Vec<Call<u64, u64>>, Flaw> {
+    part.split(' ').map(read_call).try_collect(alloc)
 }
 
 // `g` or `iN`. A number of more than 32 bits is no group's, as 0 is none.

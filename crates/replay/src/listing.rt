@@ -14,12 +14,12 @@ use steps::Refusal;
 const LONGEST_BUFFER: u64 = 32_768;
 
 impl Player {
-    // `listing MAKING ; SIZE`, with the making as an enumerator's scenario begins
+    /// `listing MAKING ; SIZE`, with the making as an enumerator's scenario begins
     pub fn listing(&mut self, making: &[&str], size: &str) -> Result<(), Flaw> {
         let size = read_size(size)?;
         match making {
             ["product", repeat, pools] => self.list_rows(
-                make_product(self.heap, repeat, pools)?,
+                make_product(self.alloc, repeat, pools)?,
                 size,
             ),
             ["combinations", n, r] => self.list_rows(make_combinations(n, r)?, size),
@@ -40,7 +40,7 @@ impl Player {
             Err(refusal) => return refusal.show(&mut self.out),
         };
         let size = size.unwrap_or(least_buffer(enumerator.row_len()));
-        let mut buffer = vec![in self.heap; BLANK; size]?;
+        let mut buffer = vec![in self.alloc; BLANK; size]?;
         let listed = list(enumerator, buffer.as_mut_slice());
         let (text, rest) = buffer.as_slice().split_at(listed.unwrap_or(0));
         listed.map(Listed).show(&mut self.out)?;

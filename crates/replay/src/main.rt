@@ -20,11 +20,11 @@ use std::io;
 use std::io::{BufRead, BufReader};
 
 fn main(rt: HostRuntime) -> io::Result<()> {
-    let heap = rt.alloc();
-    for line in BufReader::new(heap, rt.stdin())?.split(heap, b'\n') {
+    let alloc = rt.alloc();
+    for line in BufReader::new(alloc, rt.stdin())?.split(alloc, b'\n') {
         let line = line?;
         if !scenario::is_silent(line.as_slice()) {
-            scenario::replay(&rt, heap, line.as_slice())?;
+            scenario::replay(&rt, alloc, line.as_slice())?;
         }
     }
     Ok(())

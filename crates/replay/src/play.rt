@@ -15,10 +15,12 @@ const ENDS: u8 = 3;
 // How many bytes of text are kept before they are printed, where there may be many more.
 const PAGE: usize = 4096;
 
-// What a scenario is played with: the memory for what is read of it, and the text of the answers so far.
+/// What a scenario is played with.
 #[derive(Drop)]
 pub struct Player {
-    pub heap: Global,
+    /// For what is read of the scenario.
+    pub alloc: Global,
+    /// The text of the answers so far.
     pub out: String,
 }
 
@@ -26,7 +28,11 @@ pub struct Player {
 fn call<S: Source>(source: &mut S, out: &mut String) -> Result<bool, Flaw>
 where
     S::Item: Show + Drop,
-    ensures unless_out_of_memory { MatchResult result (λ ended. (ended ≡ says_end (first (S.Source.ahead source.old))) × (string_bytes out.new ≡ string_bytes out.old ++ answer_line S.Item.Show.line (first (S.Source.ahead source.old)))) (λ flaw. flaw ≡ Memory) }
+    ensures unless_out_of_memory { MatchResult result
+        (λ ended. (ended ≡ says_end (first (S.Source.ahead source.old)))
+        × (string_bytes out.new ≡ string_bytes out.old
+        ++ answer_line S.Item.Show.line (first (S.Source.ahead source.old))))
+        (λ flaw. flaw ≡ Memory) }
     ensures leaves { S.Source.ahead source.new ≡ rest (S.Source.ahead source.old) }
 {
     match source.next() {
@@ -40,12 +46,15 @@ where
     Ok(false)
 }
 
-// Calls a source until it has said end three times in all, and writes every answer: a line for each step that it has ahead,
-// and then the ends.
+/// Calls a source until it has said end three times in all, and writes every answer: a line for
+/// each step that it has ahead, and then the ends.
 pub fn play<S: Source>(source: &mut S, out: &mut String) -> Result<(), Flaw>
 where
     S::Item: Show + Drop,
-    ensures unless_out_of_memory { MatchResult result (λ _. string_bytes out.new ≡ string_bytes out.old ++ transcript S.Item.Show.line 3 (S.Source.ahead source.old)) (λ flaw. flaw ≡ Memory) }
+    ensures unless_out_of_memory { MatchResult result
+        (λ _. string_bytes out.new
+        ≡ string_bytes out.old ++ transcript S.Item.Show.line 3 (S.Source.ahead source.old))
+        (λ flaw. flaw ≡ Memory) }
 {
     for _ in 0..ENDS {
         while !call(source, out)? {}
@@ -53,8 +62,9 @@ where
     Ok(())
 }
 
-// The same where the text may be too long to be kept: it is printed a page at a time, and `out` has the last one. A loop of its own,
-// since what is printed is in no contract and `play` says the whole text.
+// a loop of its own, since what is printed is in no contract and `play` says the whole text
+/// The same where the text may be too long to be kept: it is printed a page at a time, and `out`
+/// has the last one.
 pub fn play_in_pages<S: Source, R: Print>(
     rt: &R,
     source: &mut S,

@@ -1,12 +1,12 @@
 // The predicates and key kinds that scenarios name.
-ghost use Rattle.std.specs.Prelude.{◌≡◌, ◌%◌, ◌<◌, Ok, nat_lt};
+ghost use Rattle.std.specs.Prelude.{◌≡◌, ◌%◌, ◌<◌, Ok};
 ghost use Rattle.replay.specs.Guards.{no_answer as no_answer_of, guarded};
 ghost use Rattle.replay.specs.Origins.{guarded_origin};
 ghost use Rattle.std.proofs.Common.{rules};
 
 use crate::flaw::Flaw;
 use crate::form::number;
-use rules::Below;
+use rules::{Below, NonZero};
 use steps::{Fault, Keying, Predicate};
 
 // What a rule of this origin meets at its bad item.
@@ -20,7 +20,7 @@ fn no_answer(origin: u8) -> Fault
     }
 }
 
-// A rule that meets a fault at one item, if there is such, whatever it would say of it.
+/// A rule that meets a fault at one item, if there is such, whatever it would say of it.
 #[derive(Clone, Copy)]
 pub struct Guarded<R> {
     bad: Option<u64>,
@@ -30,7 +30,8 @@ pub struct Guarded<R> {
 impl<P: Predicate<u64>> Predicate<u64> for Guarded<P> {
     ghost says = { λ p n. guarded 2 p.bad n (P.Predicate.says p.rule n) };
 
-    ghost origin = { λ s a f e. guarded_origin 2 s.bad a (P.Predicate.says s.rule a) f (P.Predicate.origin s.rule a f) e };
+    ghost origin = { λ s a f e. guarded_origin 2 s.bad a (P.Predicate.says s.rule a) f
+        (P.Predicate.origin s.rule a f) e };
 
     fn test(&self, item: u64) -> Result<bool, Fault> {
         if self.bad == Some(item) {
@@ -45,7 +46,8 @@ impl<K: Keying<u64>> Keying<u64> for Guarded<K> {
 
     ghost key = { λ k n. guarded 3 k.bad n (K.Keying.key k.rule n) };
 
-    ghost origin = { λ s a f e. guarded_origin 3 s.bad a (K.Keying.key s.rule a) f (K.Keying.origin s.rule a f) e };
+    ghost origin = { λ s a f e. guarded_origin 3 s.bad a (K.Keying.key s.rule a) f
+        (K.Keying.origin s.rule a f) e };
 
     fn key_of(&self, item: u64) -> Result<K::Key, Fault> {
         if self.bad == Some(item) {
@@ -55,21 +57,7 @@ impl<K: Keying<u64>> Keying<u64> for Guarded<K> {
     }
 }
 
-// Accepts the numbers that are not 0.
-#[derive(Clone, Copy)]
-pub struct NonZero;
-
-impl Predicate<u64> for NonZero {
-    ghost says = { λ _ n. Ok (nat_lt 0 n) };
-
-    ghost origin = { Prim.search rules };
-
-    fn test(&self, item: u64) -> Result<bool, Fault> {
-        Ok(0 < item)
-    }
-}
-
-// The key of a number is its remainder by a modulus.
+/// The key of a number is its remainder by a modulus.
 #[derive(Clone, Copy)]
 pub struct Remainder {
     modulus: u64,
@@ -88,7 +76,7 @@ impl Keying<u64> for Remainder {
     }
 }
 
-// `below:LIMIT` or `below:LIMIT:BAD`.
+/// `below:LIMIT` or `below:LIMIT:BAD`.
 pub fn read_below(word: &str) -> Result<Guarded<Below>, Flaw> {
     let numbers = word.strip_prefix("below:").ok_or(Flaw::Form)?;
     let (limit, bad) = read_bad(numbers)?;
@@ -99,7 +87,7 @@ pub fn read_below(word: &str) -> Result<Guarded<Below>, Flaw> {
     })
 }
 
-// `nonzero` or `nonzero:BAD`.
+/// `nonzero` or `nonzero:BAD`.
 pub fn read_nonzero(word: &str) -> Result<Guarded<NonZero>, Flaw> {
     match read_bad(word)? {
         ("nonzero", bad) => Ok(Guarded { bad, rule: NonZero }),
@@ -107,7 +95,7 @@ pub fn read_nonzero(word: &str) -> Result<Guarded<NonZero>, Flaw> {
     }
 }
 
-// `mod:M` or `mod:M:BAD`, with an M above 0.
+/// `mod:M` or `mod:M:BAD`, with an M above 0.
 pub fn read_remainder(word: &str) -> Result<Guarded<Remainder>, Flaw> {
     let numbers = word.strip_prefix("mod:").ok_or(Flaw::Form)?;
     let (modulus, bad) = read_bad(numbers)?;

@@ -8,18 +8,18 @@ use crate::play::Player;
 use std::alloc::{AllocError, Global};
 use std::io;
 
-// Whether a line is no scenario, but empty or a comment.
+/// Whether a line is no scenario, but empty or a comment.
 pub fn is_silent(line: &[u8]) -> bool
     ensures { result ≡ silent line.now }
 {
     matches!(line, [] | [b'#', ..])
 }
 
-// Prints the answers to a scenario and the line that closes them.
-pub fn replay<R: Print>(rt: &R, heap: Global, line: &[u8]) -> io::Result<()> {
+/// Prints the answers to a scenario and the line that closes them.
+pub fn replay<R: Print>(rt: &R, alloc: Global, line: &[u8]) -> io::Result<()> {
     let mut player = Player {
-        heap,
-        out: String::new(heap),
+        alloc,
+        out: String::new(alloc),
     };
     match player.play_line(rt, line) {
         Ok(()) => {}
@@ -39,11 +39,11 @@ impl Player {
         let Ok(text) = std::str::from_utf8(line) else {
             return Err(Flaw::Form);
         };
-        let parts = parts(self.heap, text)?;
+        let parts = parts(self.alloc, text)?;
         let [head, steps @ ..] = parts.as_slice() else {
             return Err(Flaw::Form);
         };
-        let words = words(self.heap, head)?;
+        let words = words(self.alloc, head)?;
         self.play_parts(rt, words.as_slice(), steps)
     }
 
@@ -66,7 +66,7 @@ impl Player {
         }
     }
 
-    // The forms of enumerators, tees and groups, whose last part is a list of calls; and of listings.
+    // The forms of enumerators, tees and groups, whose last part is a list of calls; and listings.
     fn play_calls(&mut self, head: &[&str], parts: &[&str]) -> Result<(), Flaw> {
         match (head, parts) {
             (["product", repeat, pools], [calls]) => self.product(repeat, pools, calls),

@@ -1,8 +1,43 @@
 // The text of answers, each on a line of its own.
-ghost use Rattle.std.specs.Prelude.{◌≡◌, ℕ, List, ◌++◌, Some, true, string_bytes, decimal, MatchResult, refl, ◌==◌};
+ghost use Rattle.std.specs.Prelude.{
+  ◌≡◌,
+  ℕ,
+  List,
+  ◌++◌,
+  Some,
+  true,
+  string_bytes,
+  decimal,
+  MatchResult,
+  refl,
+  ◌==◌,
+};
 ghost use Rattle.std.specs.List.{list_all};
 ghost use Rattle.replay.specs.declared.flaw.Flaw.TheVariants.{Memory};
-ghost use Rattle.replay.specs.Lines.{item_line, pair_line, block_line, fault_line, refused_line, given_line, error_line, result_line, group_line, branch_line, tee_line, groups_line, store_line, listed_line, marked, rest_line, left_line, both_left_line, row_word, each, spaced, call_line};
+ghost use Rattle.replay.specs.Lines.{
+  item_line,
+  pair_line,
+  block_line,
+  fault_line,
+  refused_line,
+  given_line,
+  error_line,
+  result_line,
+  group_line,
+  branch_line,
+  tee_line,
+  groups_line,
+  store_line,
+  listed_line,
+  marked,
+  rest_line,
+  left_line,
+  both_left_line,
+  row_word,
+  each,
+  spaced,
+  call_line,
+};
 ghost use Rattle.steps.specs.Refusals.{refusal_number};
 
 use crate::flaw::Flaw;
@@ -12,12 +47,12 @@ use std::fmt;
 use std::fmt::Write;
 use steps::{Answer, CallError, Fault, Refusal};
 
-// What has a line of its own among the answers. A trait of its own: `Display` cannot be written here for numbers, pairs and what other
-// crates declare, and the plan checker's `Line` writes into a formatter, where this writes into the text and may end in a flaw.
+// no `Display`, which cannot be written here for numbers, pairs and what other crates declare
+/// What has a line of its own among the answers.
 pub trait Show {
     ghost line: { Self → List ℕ };
 
-    // Writes the line behind the text so far.
+    /// Writes the line behind the text so far.
     fn show(&self, out: &mut String) -> Result<(), Flaw>
         ensures unless_out_of_memory { MatchResult result
             (λ _. string_bytes out.new ≡ string_bytes out.old ++ line self.now)
@@ -123,7 +158,7 @@ impl Show for (u64, u32) {
 
 // The number of the branch that a copy made.
 #[derive(Clone, Copy)]
-pub struct Branch(pub usize);
+struct Branch(usize);
 
 impl Show for Branch {
     ghost line = { λ b. branch_line b.0 };
@@ -134,7 +169,7 @@ impl Show for Branch {
     }
 }
 
-// What the places of a store hold.
+/// What the places of a store hold.
 #[derive(Clone, Copy)]
 pub struct Store<'a>(pub &'a [u64]);
 
@@ -147,7 +182,7 @@ impl Show for Store<'_> {
     }
 }
 
-// How many bytes a listing wrote.
+/// How many bytes a listing wrote.
 #[derive(Clone, Copy)]
 pub struct Listed(pub usize);
 
@@ -160,7 +195,7 @@ impl Show for Listed {
     }
 }
 
-// The text of a listing, each of its lines behind a mark. Its bytes are taken as characters one by one.
+/// The text of a listing, each of its lines behind a mark. Each byte is taken as a character.
 #[derive(Clone, Copy)]
 pub struct Text<'a>(pub &'a [u8]);
 
@@ -180,10 +215,10 @@ impl Show for Text<'_> {
     }
 }
 
-// What a listing's buffer holds before it.
+/// What a listing's buffer holds before it.
 pub const BLANK: u8 = 42;
 
-// Whether what a listing did not write of its buffer is as it was.
+/// Whether what a listing did not write of its buffer is as it was.
 #[derive(Clone, Copy)]
 pub struct Rest<'a>(pub &'a [u8]);
 
@@ -207,7 +242,7 @@ fn is_blank(bytes: &[u8]) -> bool
     bytes.iter().all(|byte| *byte == BLANK)
 }
 
-// How many steps the source below an adapter still has ahead.
+/// How many steps the source below an adapter still has ahead.
 #[derive(Clone, Copy)]
 pub struct Left(pub usize);
 
@@ -220,7 +255,7 @@ impl Show for Left {
     }
 }
 
-// The same of the two sources below an adapter.
+/// The same of the two sources below an adapter.
 #[derive(Clone, Copy)]
 pub struct BothLeft(pub usize, pub usize);
 
@@ -273,7 +308,7 @@ impl Show for groups::Call<u64, u64> {
     }
 }
 
-// The calls that were made, a line for each.
+/// The calls that were made, a line for each.
 pub fn show_calls<C: Show>(calls: &[C], out: &mut String) -> Result<(), Flaw>
     ensures unless_out_of_memory { MatchResult result
         (λ _. string_bytes out.new ≡ string_bytes out.old ++ each C.line calls.now)

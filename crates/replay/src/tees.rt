@@ -12,7 +12,7 @@ use tee::{Ask, Call, MOST_BRANCHES, run};
 const UNTOUCHED: u64 = 7777;
 
 impl Player {
-    // `tee N C ; STEPS ; CALLS`, where N may be `-`
+    /// `tee N C ; STEPS ; CALLS`, where N may be `-`
     pub fn tee(
         &mut self,
         branches: &str,
@@ -25,10 +25,10 @@ impl Player {
         // a tee that is refused wants no store, however long it would be
         let refused = branches.is_some_and(|branches| branches > MOST_BRANCHES);
         let places = if refused { 0 } else { places };
-        let ahead = steps(self.heap, ahead)?;
-        let mut calls = read_calls(self.heap, calls, places)?;
+        let ahead = steps(self.alloc, ahead)?;
+        let mut calls = read_calls(self.alloc, calls, places)?;
         let mut source = Script::new(ahead.as_slice());
-        let mut store = vec![in self.heap; UNTOUCHED; places]?;
+        let mut store = vec![in self.alloc; UNTOUCHED; places]?;
         let made = run(
             &mut source,
             branches,
@@ -45,34 +45,35 @@ impl Player {
 }
 
 // The calls, one to a word, on a tee whose store has so many places.
-fn read_calls(heap: Global, part: &str, places: usize) -> Result<Vec<Call<u64>>, Flaw> {
+fn read_calls(alloc: Global, part: &str, places: usize) -> Result<Vec<Call<u64>>, Flaw> {
     part.split(' ')
-        .map(|word| read_call(heap, word, places))
-        .try_collect(heap)
+        .map(|word| read_call(alloc, word, places))
+        .try_collect(alloc)
 }
 
 // `sB`, `sB:L` or `cB`.
-fn read_call(heap: Global, word: &str, places: usize) -> Result<Call<u64>, Flaw> {
+fn read_call(alloc: Global, word: &str, places: usize) -> Result<Call<u64>, Flaw> {
     if let Some(branch) = word.strip_prefix('c') {
-        return lend(heap, Ask::Copy(number(branch)? as usize), 0);
+        return lend(alloc, Ask::Copy(number(branch)? as usize), 0);
     }
     let step = word.strip_prefix('s').ok_or(Flaw::Form)?;
     match step.split_once(':') {
         Some((branch, lent)) => {
             let branch = number(branch)? as usize;
-            // a store longer than the tee's is cut one place behind that, since it is refused whatever its length
+            // a store longer than the tee's is cut one place behind that, since it is refused
+            // whatever its length
             let lent = (number(lent)? as usize).min(places.saturating_add(1));
-            lend(heap, Ask::StepElsewhere(branch), lent)
+            lend(alloc, Ask::StepElsewhere(branch), lent)
         }
-        None => lend(heap, Ask::Step(number(step)? as usize), 0),
+        None => lend(alloc, Ask::Step(number(step)? as usize), 0),
     }
 }
 
 // A call that is still to be made, with another store of so many places.
-fn lend(heap: Global, ask: Ask, lent: usize) -> Result<Call<u64>, Flaw> {
+fn lend(alloc: Global, ask: Ask, lent: usize) -> Result<Call<u64>, Flaw> {
     Ok(Call {
         ask,
-        other: vec![in heap; UNTOUCHED; lent]?,
+        other: vec![in alloc; UNTOUCHED; lent]?,
         told: None,
     })
 }

@@ -1,3 +1,4 @@
 pub mod Predicate
+pub mod Combined
 pub mod Key
 pub mod Joining

@@ -3,7 +3,7 @@ ghost use Rattle.std.proofs.Common.{rules};
 
 use steps::{Fault, Joining};
 
-// Joins two numbers to the larger one.
+/// Joins two numbers to the larger one, as Python's `max`: 9 and 5 to 9. It meets no fault.
 #[derive(Clone, Copy, PartialEq, Eq, Debug)]
 pub struct Larger;
 
@@ -17,7 +17,8 @@ impl Joining<u64> for Larger {
     }
 }
 
-// Joins two numbers to their sum; a sum that 64 bits do not hold is a fault.
+/// Joins two numbers to their sum, as Python's `operator.add`: 9 and 5 to 14. A sum above 2^64 - 1
+/// is the fault 4, 1, 0.
 #[derive(Clone, Copy, PartialEq, Eq, Debug)]
 pub struct Sum;
 

@@ -2,10 +2,12 @@
 
 #![tactic(auto)]
 
+mod combined;
 mod joining;
 mod key;
 mod predicate;
 
+pub use combined::{Both, Either, Not};
 pub use joining::{Larger, Sum};
-pub use key::{Bay, BayAndBus, Itself};
-pub use predicate::{Below, LastsAtLeast};
+pub use key::{Bay, BayAndBus, Bus, Itself, Minutes, Start};
+pub use predicate::{AtLeast, Below, Equals, IsTrue, LastsAtLeast, NonZero};

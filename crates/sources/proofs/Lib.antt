@@ -1,2 +1,3 @@
 mod RangeLemmas
 pub mod FrameLemmas
+mod CauseLemmas

@@ -1,19 +1,40 @@
-ghost use Rattle.std.specs.Prelude.{◌≡◌, ◌+◌, ◌≤◌, ℕ, length, drop, IsTrue, ◌↔◌, IfOk, IfErr, Ok, Err};
+ghost use Rattle.std.specs.Prelude.{
+  ◌≡◌,
+  ◌+◌,
+  ◌≤◌,
+  ℕ,
+  length,
+  drop,
+  IsTrue,
+  ◌↔◌,
+  IfOk,
+  IfErr,
+  Ok,
+  Err,
+};
 ghost use Rattle.sources.specs.Frame.{word, broken, framed};
 
 use crate::cause::Cause;
 use steps::Fault;
 
 /// A record in lent bytes: where it begins, its kind, and its payload.
+///
+/// `04 00 02 00 03 00 02 00` at the front of the bytes is a record at byte 0, of kind 2, with the
+/// payload `03 00 02 00`.
 #[derive(Clone, Copy)]
 pub struct Record<'a> {
+    /// Its first byte, counted from 0.
     pub at: usize,
+    /// Its kind: 0x0010 is a block.
     pub kind: u16,
+    /// Its payload, at most 65,535 bytes.
     pub payload: &'a [u8],
 }
 
-/// Lent bytes that are taken record after record. A record is a two-byte payload length, a two-byte kind and the payload, low
-/// byte first. What a payload means is for the reader of its kind to say.
+/// Lent bytes that are taken record after record.
+///
+/// A record is a two-byte payload length, a two-byte kind and the payload, low byte first. What a
+/// payload means is for the reader of its kind to say.
 #[derive(Drop)]
 pub struct Frames<'a> {
     bytes: &'a [u8],
@@ -37,20 +58,26 @@ impl<'a> Frames<'a> {
         Frames { bytes, at: 0 }
     }
 
-    /// Whether no bytes are left.
+    /// Whether no bytes are left, so that no record can be taken.
     pub fn is_over(&self) -> bool
         ensures { IsTrue result ↔ (length self.now.bytes.now ≤ self.now.at) }
     {
         self.at >= self.bytes.len()
     }
 
-    /// Takes the next record. Fewer than four bytes are cause 1, a payload cut short is cause 2; nothing is left after these.
+    /// Takes the next record. Fewer than four bytes are cause 1 and a payload cut short is cause 2,
+    /// each a source's fault at the byte where the record begins; nothing is left after these.
     /// `04 00 02 00 03 00 02 00` is a record of kind 2 with four bytes of payload.
     pub fn take(&mut self) -> Result<Record<'a>, Fault>
         ensures taken { IfOk result (λ r. (r.at ≡ self.old.at)
-            × (framed (drop self.old.at self.old.bytes.now) ≡ Ok (record { kind = r.kind; payload = r.payload.now; behind = drop self.new.at self.old.bytes.now }))
+            × (framed (drop self.old.at self.old.bytes.now) ≡ Ok (record {
+              kind = r.kind;
+              payload = r.payload.now;
+              behind = drop self.new.at self.old.bytes.now;
+            }))
             × (self.new.at ≡ self.old.at + 4 + length r.payload.now)) }
-        ensures faulty { IfErr result (λ f. ((cause : ℕ) × (f ≡ broken cause self.old.at) × (framed (drop self.old.at self.old.bytes.now) ≡ Err cause))
+        ensures faulty { IfErr result (λ f. ((cause : ℕ) × (f ≡ broken cause self.old.at)
+            × (framed (drop self.old.at self.old.bytes.now) ≡ Err cause))
             × (self.new.at ≡ length self.old.bytes.now)) }
         ensures bytes { self.new.bytes ≡ self.old.bytes }
     {

@@ -12,7 +12,7 @@ mod records;
 mod script;
 
 pub use block::Block;
-pub use cause::{Cause, UnknownCause};
+pub use cause::{Cause, RecordFault, UnknownCause};
 pub use frame::{Frames, Record, word_of};
 pub use list::List;
 pub use range::Range;

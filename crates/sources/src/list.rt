@@ -6,13 +6,15 @@ ghost use Rattle.steps.specs.Steps.{item};
 use std::slice;
 use steps::{Answer, Fault, Source};
 
-// The elements of a lent list, in order.
+/// The elements of a lent list, in order: over 5 and 9 the steps 5 and 9, and then the end. It
+/// meets no fault.
 #[derive(Drop)]
 pub struct List<'a, T> {
     rest: slice::Iter<'a, T>,
 }
 
 impl<'a, T: Copy> List<'a, T> {
+    /// A source of all elements of the list, of any copyable kind.
     pub fn new(list: &'a [T]) -> Self
         ensures ahead { ⟦<List<'a, T> as Source>⟧.ahead result ≡ map item list.now }
     {

@@ -11,14 +11,19 @@ use steps::{Answer, Fault, Source};
 // The kind of a record that holds a block.
 const BLOCK: u16 = 0x0010;
 
-/// Blocks read from record bytes.
+/// Blocks read from record bytes: a block for each right record, and a fault for each bad one.
+///
+/// A block is a record of kind 0x0010 with a payload of four two-byte numbers, low byte first: bus,
+/// bay, start minute, end minute. A fault has origin 1, the causes 1 to 5 (`Cause`), and as place
+/// the first byte of its record.
 #[derive(Drop)]
 pub struct Records<'a> {
     frames: Frames<'a>,
 }
 
 impl<'a> Records<'a> {
-    /// The bytes `08 00 10 00 07 00 02 00 68 01 72 01` are bus 7 at bay 2 from minute 360 to 370. Faults are the causes 1 to 5.
+    /// The blocks of these bytes. `08 00 10 00 07 00 02 00 68 01 72 01` are bus 7 at bay 2 from
+    /// minute 360 to 370. No bytes are no blocks.
     pub fn new(bytes: &'a [u8]) -> Self
         ensures ahead { ⟦<Records<'a> as Source>⟧.ahead result ≡ records_from bytes.now 0 }
         ensures law { Reads record_step 0 bytes.now (⟦<Records<'a> as Source>⟧.ahead result) }

@@ -2,3 +2,4 @@ mod Answered
 pub mod Trace
 pub mod Below
 pub mod RunLemmas
+mod FaultLemmas

@@ -16,6 +16,11 @@ abbrev pub answer_of : {A : Type 0} → Option A → Answer A
 answer_of (Some a) = Item a
 answer_of None = End
 
+-- the item of an answer; the end has none
+abbrev pub item_of : {A : Type 0} → Answer A → Option A
+item_of (Item a) = Some a
+item_of End = None
+
 -- what a call answers for a step
 abbrev pub answer : {A : Type 0} → Step A → Result (Answer A) Fault
 answer (Ok a) = Ok (Item a)

@@ -4,7 +4,8 @@ use crate::answer::Answer;
 use crate::fault::Fault;
 use crate::source::Source;
 
-// A source that is lent is a source too: it goes on where it stands, and so does its owner afterwards.
+/// A source that is lent is a source too: it goes on where it stands, and so does its owner
+/// afterwards.
 impl<'a, S: Source> Source for &'a mut S {
     type Item = S::Item;
 

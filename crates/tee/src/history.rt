@@ -1,34 +1,49 @@
 // Histories of steps and copies of one tee, and the law of all of them.
 ghost use Rattle.std.specs.Prelude.{◌≡◌, ◌≤◌, ◌<◌, length, MatchResult};
 ghost use Rattle.steps.specs.Refusals.{refusal_number};
-ghost use Rattle.laws.specs.Tee.{asked_for, Transition, Ran, EveryHistory, EveryRefusedUnfelt, SameAnswers};
+ghost use Rattle.laws.specs.Tee.{
+  asked_for,
+  Transition,
+  Ran,
+  EveryHistory,
+  EveryRefusedUnfelt,
+  SameAnswers,
+};
 ghost use Rattle.tee.specs.Tee.{marks_of, source_of};
 ghost use Rattle.tee.specs.History.{memory, memories};
 
-use crate::tee::{Tee, TeeError};
-use steps::{Answer, CallError, Refusal, Source};
+use crate::tee::Tee;
+use steps::{Answer, CallError, MakingError, Refusal, Source};
 
 /// What a call asks of a tee: a step of a branch, lent the tee's own store as the calls before left
 /// it; a step of a branch, lent another store; or a copy of a branch.
 #[derive(Clone, Copy, PartialEq, Eq, Debug)]
 pub enum Ask {
+    /// A step of this branch, lent the tee's own store.
     Step(usize),
+    /// A step of this branch, lent the other store.
     StepElsewhere(usize),
+    /// A copy of this branch.
     Copy(usize),
 }
 
 /// What a call told.
 #[derive(Clone, Copy, PartialEq, Eq, Debug)]
 pub enum Told<T> {
+    /// An item, the end, a refusal or a fault, by a step.
     Stepped(Result<Answer<T>, CallError>),
+    /// The number of the new branch, or a refusal, by a copy.
     Copied(Result<usize, Refusal>),
 }
 
 /// A call with the other store that it may lend; once it was made, with what it told.
 #[derive(Drop)]
 pub struct Call<T> {
+    /// What it asks.
     pub ask: Ask,
+    /// The store that a step elsewhere lends.
     pub other: Vec<T>,
+    /// What it told, once it was made.
     pub told: Option<Told<T>>,
 }
 
@@ -61,7 +76,7 @@ pub fn run<S: Source>(
     branches: Option<usize>,
     store: &mut [S::Item],
     calls: &mut [Call<S::Item>],
-) -> Result<(Tee<S>, usize), TeeError<S>>
+) -> Result<(Tee<S>, usize), MakingError<S>>
 where
     S::Item: Copy,
     ensures { MatchResult result

@@ -1,5 +1,5 @@
-// Several branches over one source, which see the same items, each at its own pace. What is drawn is
-// stored in a store that every step lends, so that a tee needs no memory of its own.
+// Several branches over one source, which see the same items, each at its own pace. What is drawn
+// is stored in a store that every step lends, so that a tee needs no memory of its own.
 
 #![tactic(auto)]
 
@@ -7,4 +7,4 @@ mod history;
 mod tee;
 
 pub use history::{Ask, Call, Told, every_history, run};
-pub use tee::{MOST_BRANCHES, Tee, TeeError};
+pub use tee::{MOST_BRANCHES, Tee};

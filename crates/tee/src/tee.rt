@@ -3,7 +3,7 @@
 // the law that `run` and `every_history` name.
 ghost use Rattle.laws.specs.Tee.{Sound};
 
-use steps::{Answer, CallError, Refusal, Source};
+use steps::{Answer, CallError, MakingError, Refusal, Source};
 
 /// The most branches of a tee.
 pub const MOST_BRANCHES: usize = 16;
@@ -37,26 +37,6 @@ pub struct Tee<S> {
     ghost sound: { Sound marks.positions marks.branches marks.stored marks.places },
 }
 
-/// A making that was refused, with the source as it was.
-///
-/// It becomes a `CallError` by `?`, which lets the source go.
-#[derive(Drop)]
-pub struct TeeError<S> {
-    pub refusal: Refusal,
-    pub source: S,
-}
-
-impl<S: Drop> From<TeeError<S>> for CallError {
-    ghost use Rattle.std.specs.Prelude.{◌≡◌};
-    ghost use Rattle.steps.specs.declared.call_error.CallError.TheVariants.{Refused as refused_by};
-
-    ghost from_gives = { λ e r. r ≡ refused_by e.refusal };
-
-    fn from(error: TeeError<S>) -> CallError {
-        CallError::Refused(error.refusal)
-    }
-}
-
 impl<S: Source> Tee<S> {
     ghost use Rattle.std.specs.Prelude.{◌≡◌, ◌≤◌, ◌<◌, length, MatchResult};
     ghost use Rattle.steps.specs.Refusals.{refusal_number};
@@ -73,7 +53,7 @@ impl<S: Source> Tee<S> {
     /// More than 16 branches are refused by 8, and the source comes back as it was.
     ///
     /// `Tee::new(List::new(&numbers), None, 2)` has the branches 0 and 1.
-    pub fn new(source: S, branches: Option<usize>, places: usize) -> Result<Self, TeeError<S>>
+    pub fn new(source: S, branches: Option<usize>, places: usize) -> Result<Self, MakingError<S>>
         ensures { MatchResult result
             (λ t. (asked_for branches ≤ 16) × (marks_of t ≡ fresh (asked_for branches) places)
             × (source_of t ≡ source))
@@ -82,7 +62,7 @@ impl<S: Source> Tee<S> {
     {
         let branches = branches.unwrap_or(BRANCHES);
         if branches > MOST_BRANCHES {
-            return Err(TeeError {
+            return Err(MakingError {
                 refusal: Refusal::NoBranch,
                 source,
             });
@@ -118,7 +98,7 @@ impl<S: Source> Tee<S> {
         ensures answer { result ≡ (step_of S.Source.ahead self.old branch store.old).answer }
         ensures number { number_told result
             ≡ step_number (marks_of self.old) branch (length store.old) }
-        ensures marks { marks_of self.new
+        ensures stands { marks_of self.new
             ≡ (step_of S.Source.ahead self.old branch store.old).marks }
         ensures below { S.Source.ahead (source_of self.new)
             ≡ (step_of S.Source.ahead self.old branch store.old).ahead }
@@ -161,7 +141,7 @@ impl<S: Source> Tee<S> {
     pub fn copy(&mut self, branch: usize) -> Result<usize, Refusal>
         ensures answer { result ≡ copy_answer (marks_of self.old) branch }
         ensures number { copy_number_told result ≡ copy_number (marks_of self.old) branch }
-        ensures marks { marks_of self.new ≡ copy_marks (marks_of self.old) branch }
+        ensures stands { marks_of self.new ≡ copy_marks (marks_of self.old) branch }
         ensures source { source_of self.new ≡ source_of self.old }
         ensures rests { IfErr result (self.new ≡ self.old) }
     {

@@ -1,5 +1,5 @@
 -- Worked examples of the definitions, as one table.
-use Rattle.std.specs.Prelude.{◌≡◌, ℕ, zero, suc, Bool, true, false, List, [], ◌∷◌, ◌++◌, map, take, Some, None, Ok, Result, Err, nat_eq}
+use Rattle.std.specs.Prelude.{◌≡◌, ℕ, zero, suc, Bool, true, false, List, [], ◌∷◌, ◌++◌, map, take, Some, None, Ok, Result, Err, nat_eq, codes}
 use Rattle.steps.specs.declared.fault.Fault.{Fault}
 use Rattle.laws.specs.Islice.{bounds, until, slices, slice_end}
 use Rattle.laws.specs.Chain.{until_fault}
@@ -21,12 +21,21 @@ use Rattle.steps.specs.declared.call_error.CallError.TheVariants.{Refused, Broke
 use Rattle.laws.specs.Tee.{Marks, asked_for, fresh, stepped, step_number, copy_answer, copy_marks}
 use Rattle.steps.specs.Steps.{Step, first, rest}
 use Rattle.laws.specs.Runs.{Runs}
-use Rattle.laws.specs.GroupBy.{Grouping, unbegun, most_groups, number_earned, Ask, GroupCall, ItemCall, Told, Opened, Given, called, items_of}
+use Rattle.laws.specs.GroupBy.{Grouping, unbegun, number_earned, Ask, GroupCall, ItemCall, Told, Opened, Given, called, items_of}
 use Rattle.sources.specs.Range.{numbers}
 use Rattle.sources.specs.declared.block.Block.{Block}
 use Rattle.sources.specs.Frame.{broken}
 use Rattle.sources.specs.Records.{records_from}
 use Rattle.rules.specs.Joining.{larger, sum}
+use Rattle.rules.specs.Predicate.{below, at_least, non_zero, same_as, lasts}
+use Rattle.rules.specs.Combined.{turned, both, either}
+use Rattle.rules.specs.Key.{bay_and_bus}
+use Rattle.sources.specs.Block.{minutes_of, gap_until}
+use Rattle.sources.specs.Cause.{record_fault_text}
+use Rattle.steps.specs.Fault.{fault_text as text_of_fault}
+use Rattle.steps.specs.Refusals.{refusal_text as text_of_refusal}
+use Rattle.steps.specs.CallError.{call_error_text}
+use Rattle.text.specs.Writer.{place_behind, if_room}
 use Rattle.plan.specs.Account.{account_of, all_clear}
 use Rattle.row_laws.specs.Listing.{listing}
 use Rattle.jobs.specs.Job.{answer_text, fault_text, refusal_text}
@@ -70,8 +79,11 @@ a_row row = (Ok (Item tt), row)
 abbrev pub no_row : Result (Answer (Unit {0})) Refusal × List ℕ
 no_row = (Ok End, [])
 
+abbrev pub stay : ℕ → ℕ → Block
+stay start end = record { bus = 7; bay = 2; start = start; end = end }
+
 abbrev pub block : ℕ → ℕ → Step Block
-block start end = Ok (record { bus = 7; bay = 2; start = start; end = end })
+block start end = Ok (stay start end)
 
 -- a groupby over these steps, by the item itself, before its first call
 abbrev pub grouping : List (Step ℕ) → Grouping ℕ ℕ
@@ -126,7 +138,7 @@ pub record WorkedExamples : Type 0 where
   pub other_kind_and_length : records_from (0 ∷ (0 ∷ (17 ∷ (0 ∷ (0 ∷ (0 ∷ (16 ∷ (0 ∷ [])))))))) 0 ≡ Err (broken 3 0) ∷ (Err (broken 4 4) ∷ [])
   pub no_minutes : records_from (8 ∷ (0 ∷ (16 ∷ (0 ∷ (7 ∷ (0 ∷ (2 ∷ (0 ∷ (104 ∷ (1 ∷ (104 ∷ (1 ∷ [])))))))))))) 0 ≡ Err (broken 5 0) ∷ []
   -- the bytes of one block: bus 7 at bay 2 from minute 360 to 370
-  pub block_bytes : records_from one_block 0 ≡ Ok (record { bus = 7; bay = 2; start = 360; end = 370 }) ∷ []
+  pub block_bytes : records_from one_block 0 ≡ Ok (stay 360 370) ∷ []
   -- product of lengths 2 and 2, of no pools, of 3 and 0, of one pool of 2 twice over, and a repeat of 0 beside an empty pool
   pub product_of_two : product_rows (2 ∷ (2 ∷ [])) 1 ≡ (0 ∷ (0 ∷ [])) ∷ ((0 ∷ (1 ∷ [])) ∷ ((1 ∷ (0 ∷ [])) ∷ ((1 ∷ (1 ∷ [])) ∷ [])))
   pub product_of_none : product_rows [] 1 ≡ [] ∷ []
@@ -233,3 +245,43 @@ pub record WorkedExamples : Type 0 where
   pub job_listed : answer_text (4 ∷ (0 ∷ (2 ∷ (0 ∷ (3 ∷ (0 ∷ (2 ∷ (0 ∷ [])))))))) ≡ listing (combination_rows 3 2)
   pub job_faulty : answer_text [] ≡ fault_text 1
   pub job_refused : answer_text (4 ∷ (0 ∷ (2 ∷ (0 ∷ (1 ∷ (1 ∷ (2 ∷ (0 ∷ [])))))))) ≡ refusal_text 1
+  -- the predicates at their edges: below 8 is 7, at least 8 is 8, 0 is no number but every other is, 360 to 370 lasts 10 minutes and not 11
+  pub predicates_at_their_edges : (below 8 7 ≡ Ok true) × (below 8 8 ≡ Ok false) × (at_least 8 8 ≡ Ok true) × (at_least 8 7 ≡ Ok false)
+      × (non_zero 1 ≡ Ok true) × (non_zero 0 ≡ Ok false) × (same_as nat_eq 7 7 ≡ Ok true) × (same_as nat_eq 7 8 ≡ Ok false)
+      × (lasts 10 (stay 360 370) ≡ Ok true) × (lasts 11 (stay 360 370) ≡ Ok false)
+  -- predicates made of others: the second is asked only where it matters, and a fault stays
+  pub predicates_of_others : (turned (Ok true) ≡ Ok false) × (turned (Ok false) ≡ Ok true) × (turned (Err broke) ≡ Err broke)
+      × (both (Ok true) (Ok false) ≡ Ok false) × (both (Ok true) (Ok true) ≡ Ok true) × (both (Ok false) (Err broke) ≡ Ok false) × (both (Err broke) (Ok true) ≡ Err broke)
+      × (either (Ok false) (Ok true) ≡ Ok true) × (either (Ok false) (Ok false) ≡ Ok false) × (either (Ok true) (Err broke) ≡ Ok true) × (either (Err broke) (Ok true) ≡ Err broke)
+  -- keys and minutes of a block: bus 7 at bay 2 from 360 to 370, and 9 minutes to a block from 379
+  pub block_measured : (bay_and_bus (stay 360 370) ≡ (2, 7)) × (minutes_of (stay 360 370) ≡ 10)
+      × (gap_until (stay 360 370) (stay 379 480) ≡ Some 9) × (gap_until (stay 360 370) (stay 370 480) ≡ Some 0) × (gap_until (stay 360 370) (stay 369 480) ≡ None)
+  -- what faults print
+  pub faults_in_words : (text_of_fault broke ≡ codes "fault of a source, cause 3, at byte 40")
+      × (text_of_fault (record { origin = 2; cause = 7; place = 0 }) ≡ codes "fault of a predicate, cause 7")
+      × (text_of_fault (record { origin = 3; cause = 7; place = 5 }) ≡ codes "fault of a key kind, cause 7, at byte 5")
+      × (text_of_fault (record { origin = 4; cause = 1; place = 0 }) ≡ codes "fault of a joining, cause 1")
+      × (text_of_fault (record { origin = 9; cause = 0; place = 0 }) ≡ codes "fault of origin 9, cause 0")
+  -- what a record's faults print, by each cause and by none
+  pub records_in_words : (record_fault_text (broken 1 40) ≡ codes "record at byte 40, cause 1: fewer than four bytes left")
+      × (record_fault_text (broken 2 0) ≡ codes "record at byte 0, cause 2: payload cut short")
+      × (record_fault_text broke ≡ codes "record at byte 40, cause 3: another kind of record")
+      × (record_fault_text (broken 4 12) ≡ codes "record at byte 12, cause 4: payload not of eight bytes")
+      × (record_fault_text (broken 5 24) ≡ codes "record at byte 24, cause 5: end not after start, or after midnight")
+      × (record_fault_text (broken 6 24) ≡ codes "record at byte 24, cause 6: unknown")
+      × (record_fault_text (record { origin = 4; cause = 1; place = 0 }) ≡ codes "fault of a joining, cause 1")
+  -- what refusals print, and a call's error of either kind
+  pub refusals_in_words : (text_of_refusal PoolTooLong ≡ codes "refused (1): a pool above 256 elements")
+      × (text_of_refusal RowTooLong ≡ codes "refused (2): more than 64 pools, or a row above 64 places")
+      × (text_of_refusal OtherPool ≡ codes "refused (3): a lent pool not as long as at the making")
+      × (text_of_refusal ShortBuffer ≡ codes "refused (4): a lent buffer shorter than a row, a listing or a text needs")
+      × (text_of_refusal SliceArguments ≡ codes "refused (5): islice: not one to three arguments, a step of 0, or a number above 2^63 - 1")
+      × (text_of_refusal StoreFull ≡ codes "refused (6): a tee's step needs a draw and its store is full")
+      × (text_of_refusal TooManyGroups ≡ codes "refused (7): a group call where 4,294,967,295 groups were given")
+      × (text_of_refusal NoBranch ≡ codes "refused (8): no such branch of a tee, or more than 16 branches")
+      × (text_of_refusal OtherStore ≡ codes "refused (9): a tee's store not as long as at the making")
+      × (call_error_text (Refused StoreFull) ≡ text_of_refusal StoreFull) × (call_error_text (Broken broke) ≡ text_of_fault broke)
+  -- a text at a place: where it fits, and where it is refused
+  pub text_at_a_place : (place_behind 1 3 4 ≡ Ok 4) × (place_behind 1 3 3 ≡ Err ShortBuffer)
+      × (if_room 1 (7 ∷ (8 ∷ [])) (0 ∷ (1 ∷ (2 ∷ (3 ∷ [])))) ≡ 0 ∷ (7 ∷ (8 ∷ (3 ∷ []))))
+      × (if_room 3 (7 ∷ (8 ∷ [])) (0 ∷ (1 ∷ (2 ∷ (3 ∷ [])))) ≡ 0 ∷ (1 ∷ (2 ∷ (3 ∷ []))))

@@ -1,3 +1,4 @@
+use crate::faults::BROKEN;
 use adapters::{
     Accumulate, Chain, Compress, DropWhile, Islice, Pairwise, TakeWhile, ZipLongest, consume,
 };
@@ -6,17 +7,11 @@ use sources::{Block, List, Range, Records, Script};
 use std::test::Fail;
 use steps::{Answer, Fault, Refusal, Source};
 
-const BROKEN: Fault = Fault {
-    origin: 1,
-    cause: 3,
-    place: 40,
-};
-
 // The refusal of a slice, if it is refused.
 fn refusal(arguments: &[Option<u64>]) -> Option<u8> {
     match Islice::new(Range::new(0, 9), arguments) {
         Ok(_) => None,
-        Err((refusal, _)) => Some(refusal.number()),
+        Err(error) => Some(error.refusal.number()),
     }
 }
 

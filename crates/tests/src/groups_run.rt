@@ -1,22 +1,11 @@
 ghost use Rattle.tests.specs.Keys.{key_unless, key_unless_origin};
 
+use crate::faults::{BROKEN, NO_KEY};
 use adapters::Pairwise;
 use groups::{Ask, Call, GroupBy, Grouper, Told, run};
 use rules::{Bay, Itself};
 use sources::{Block, List, Script};
 use steps::{Answer, CallError, Fault, Keying, Source, Step};
-
-const BROKEN: Fault = Fault {
-    origin: Fault::SOURCE,
-    cause: 3,
-    place: 40,
-};
-
-const NO_KEY: Fault = Fault {
-    origin: Fault::KEY,
-    cause: 1,
-    place: 0,
-};
 
 // The item itself is the key, but for one item, at which it meets a fault.
 #[derive(Clone, Copy)]
@@ -109,7 +98,8 @@ const NONE_OPENED: Told<u64, u64> = Told::Opened(Ok(Answer::End));
 
 const NONE_GIVEN: Told<u64, u64> = Told::Given(Ok(Answer::End));
 
-// What these eight calls tell: a group call, three of its items, a group call, two of its items, a group call.
+// What these eight calls tell: a group call, three of its items, a group call, two of its items, a
+// group call.
 fn told<K: Keying<u64, Key = u64> + Drop>(
     steps: &[Step<u64>],
     keys: K,

@@ -5,9 +5,9 @@ use std::io::{Read, Write};
 use std::test::Fail;
 
 // The verdict on a plan of these records, each four numbers: bus, bay, start, end.
-fn verdict_on(heap: Global, bytes: &[u8]) -> Result<String, Fail> {
-    let account = check_plan(heap, bytes)?;
-    Ok(verdict(heap, account)?)
+fn verdict_on(alloc: Global, bytes: &[u8]) -> Result<String, Fail> {
+    let account = check_plan(alloc, bytes)?;
+    Ok(verdict(alloc, account)?)
 }
 
 fn add_block(bytes: &mut Vec<u8>, bay: u16, start: u16, end: u16) -> Result<(), Fail> {
@@ -20,45 +20,45 @@ fn add_block(bytes: &mut Vec<u8>, bay: u16, start: u16, end: u16) -> Result<(), 
 
 // The verdict on two blocks.
 fn verdict_on_two(
-    heap: Global,
+    alloc: Global,
     first: (u16, u16, u16),
     second: (u16, u16, u16),
 ) -> Result<String, Fail> {
-    let mut bytes = Vec::new(heap);
+    let mut bytes = Vec::new(alloc);
     add_block(&mut bytes, first.0, first.1, first.2)?;
     add_block(&mut bytes, second.0, second.1, second.2)?;
-    verdict_on(heap, bytes.as_slice())
+    verdict_on(alloc, bytes.as_slice())
 }
 
 #[test]
 fn plans_of_two_blocks(rt: HostRuntime) -> Result<(), Fail> {
-    let heap = rt.alloc();
+    let alloc = rt.alloc();
     assert_eq!(rt;
-        verdict_on_two(heap, (2, 360, 370), (2, 370, 400))?.as_str(),
+        verdict_on_two(alloc, (2, 360, 370), (2, 370, 400))?.as_str(),
         "plan passed"
     );
     assert_eq!(rt;
-        verdict_on_two(heap, (2, 360, 370), (2, 379, 400))?.as_str(),
+        verdict_on_two(alloc, (2, 360, 370), (2, 379, 400))?.as_str(),
         "plan passed"
     );
     assert_eq!(rt;
-        verdict_on_two(heap, (2, 360, 370), (2, 380, 400))?.as_str(),
+        verdict_on_two(alloc, (2, 360, 370), (2, 380, 400))?.as_str(),
         "plan failed: gaps of ten minutes or more 1"
     );
     assert_eq!(rt;
-        verdict_on_two(heap, (2, 360, 370), (2, 369, 400))?.as_str(),
+        verdict_on_two(alloc, (2, 360, 370), (2, 369, 400))?.as_str(),
         "plan failed: overlaps 1"
     );
     assert_eq!(rt;
-        verdict_on_two(heap, (2, 360, 370), (1, 380, 400))?.as_str(),
+        verdict_on_two(alloc, (2, 360, 370), (1, 380, 400))?.as_str(),
         "plan failed: bays out of order 1"
     );
     assert_eq!(rt;
-        verdict_on_two(heap, (2, 360, 370), (3, 100, 200))?.as_str(),
+        verdict_on_two(alloc, (2, 360, 370), (3, 100, 200))?.as_str(),
         "plan passed"
     );
     assert_eq!(rt;
-        verdict_on_two(heap, (2, 360, 370), (2, 400, 400))?.as_str(),
+        verdict_on_two(alloc, (2, 360, 370), (2, 400, 400))?.as_str(),
         "plan failed: faulty records 1"
     );
     Ok(())
@@ -66,14 +66,14 @@ fn plans_of_two_blocks(rt: HostRuntime) -> Result<(), Fail> {
 
 #[test]
 fn plans_of_few_bytes(rt: HostRuntime) -> Result<(), Fail> {
-    let heap = rt.alloc();
-    assert_eq!(rt; verdict_on(heap, &[])?.as_str(), "plan passed");
+    let alloc = rt.alloc();
+    assert_eq!(rt; verdict_on(alloc, &[])?.as_str(), "plan passed");
     assert_eq!(rt;
-        verdict_on(heap, &[8, 0, 0x10])?.as_str(),
+        verdict_on(alloc, &[8, 0, 0x10])?.as_str(),
         "plan failed: faulty records 1"
     );
     assert_eq!(rt;
-        verdict_on(heap, &[0, 0, 9, 9, 1])?.as_str(),
+        verdict_on(alloc, &[0, 0, 9, 9, 1])?.as_str(),
         "plan failed: faulty records 2"
     );
     Ok(())
@@ -100,8 +100,8 @@ pairs: 3
 plan failed: faulty records 1, overlaps 1, bays out of order 2, gaps of ten minutes or more 1
 ";
 
-fn failing_plan(heap: Global) -> Result<Vec<u8>, Fail> {
-    let mut bytes = Vec::new(heap);
+fn failing_plan(alloc: Global) -> Result<Vec<u8>, Fail> {
+    let mut bytes = Vec::new(alloc);
     add_block(&mut bytes, 2, 360, 480)?;
     add_block(&mut bytes, 3, 100, 200)?;
     bytes.extend_from_slice(&[0, 0, 0x11, 0])?;
@@ -114,10 +114,10 @@ fn failing_plan(heap: Global) -> Result<Vec<u8>, Fail> {
 
 #[test]
 fn a_failing_plan_is_told_in_full(rt: HostRuntime) -> Result<(), Fail> {
-    let heap = rt.alloc();
-    let bytes = failing_plan(heap)?;
-    let mut out = Vec::new(heap);
-    let account = report(heap, &mut out, "a.plan", bytes.as_slice())?;
+    let alloc = rt.alloc();
+    let bytes = failing_plan(alloc)?;
+    let mut out = Vec::new(alloc);
+    let account = report(alloc, &mut out, "a.plan", bytes.as_slice())?;
     assert_eq!(rt; out.as_slice(), FAILING.as_bytes());
     assert_eq!(rt; account.passed(), false);
     Ok(())
@@ -133,9 +133,9 @@ plan passed
 
 #[test]
 fn a_plan_without_blocks_is_told_so(rt: HostRuntime) -> Result<(), Fail> {
-    let heap = rt.alloc();
-    let mut out = Vec::new(heap);
-    let account = report(heap, &mut out, "empty.plan", &[])?;
+    let alloc = rt.alloc();
+    let mut out = Vec::new(alloc);
+    let account = report(alloc, &mut out, "empty.plan", &[])?;
     assert_eq!(rt; out.as_slice(), EMPTY.as_bytes());
     assert_eq!(rt; account.passed(), true);
     Ok(())
@@ -143,8 +143,8 @@ fn a_plan_without_blocks_is_told_so(rt: HostRuntime) -> Result<(), Fail> {
 
 #[test]
 fn whether_a_plan_passes_wants_no_memory(rt: HostRuntime) -> Result<(), Fail> {
-    let heap = rt.alloc();
-    let mut bytes = Vec::new(heap);
+    let alloc = rt.alloc();
+    let mut bytes = Vec::new(alloc);
     assert_eq!(rt; passes(bytes.as_slice()), true);
     add_block(&mut bytes, 2, 360, 370)?;
     add_block(&mut bytes, 2, 379, 400)?;
@@ -193,10 +193,10 @@ impl Write for Narrow {
 
 #[test]
 fn a_plan_is_read_to_its_end_and_reported(rt: HostRuntime) -> Result<(), Fail> {
-    let heap = rt.alloc();
-    let bytes = failing_plan(heap)?;
-    let mut out = Vec::new(heap);
-    let told = report_from(heap, &mut out, "a.plan", &mut bytes.as_slice());
+    let alloc = rt.alloc();
+    let bytes = failing_plan(alloc)?;
+    let mut out = Vec::new(alloc);
+    let told = report_from(alloc, &mut out, "a.plan", &mut bytes.as_slice());
     assert_eq!(rt; matches!(told, Ok(account) if !account.passed()), true);
     assert_eq!(rt; out.as_slice(), FAILING.as_bytes());
     Ok(())
@@ -204,14 +204,14 @@ fn a_plan_is_read_to_its_end_and_reported(rt: HostRuntime) -> Result<(), Fail> {
 
 #[test]
 fn a_reader_or_writer_that_fails_is_told(rt: HostRuntime) -> Result<(), Fail> {
-    let heap = rt.alloc();
-    let mut out = Vec::new(heap);
-    let told = report_from(heap, &mut out, "a.plan", &mut Failing { given: false });
+    let alloc = rt.alloc();
+    let mut out = Vec::new(alloc);
+    let told = report_from(alloc, &mut out, "a.plan", &mut Failing { given: false });
     assert_eq!(rt; matches!(told, Err(Unreported::Unread(_))), true);
     assert_eq!(rt; out.is_empty(), true);
-    let bytes = failing_plan(heap)?;
+    let bytes = failing_plan(alloc)?;
     for room in 0..FAILING.len() {
-        let told = report_from(heap, &mut Narrow { room }, "a.plan", &mut bytes.as_slice());
+        let told = report_from(alloc, &mut Narrow { room }, "a.plan", &mut bytes.as_slice());
         assert_eq!(rt; matches!(told, Err(Unreported::Unwritten(_))), true);
     }
     Ok(())

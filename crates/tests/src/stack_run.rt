@@ -1,5 +1,5 @@
-// All eight adapters in one stack over records: a fault of the records comes up with its three numbers, and what is given around it
-// is what the rules say.
+// All eight adapters in one stack over records: a fault of the records comes up with its three
+// numbers, and what is given around it is what the rules say.
 
 ghost use Rattle.std.specs.Prelude.{Ok};
 ghost use Rattle.std.proofs.Common.{rules};
@@ -67,9 +67,9 @@ fn plan() -> [[u8; 12]; 6] {
     ]
 }
 
-// What the stack gives over these bytes: behind the long blocks in front, the blocks before the first short one, each with the one
-// before it and a number beside them; and then one row more.
-fn run(heap: Global, bytes: &[u8]) -> Result<Vec<Result<Row, Fault>>, Fail> {
+// What the stack gives over these bytes: behind the long blocks in front, the blocks before the
+// first short one, each with the one before it and a number beside them; and then one row more.
+fn run(alloc: Global, bytes: &[u8]) -> Result<Vec<Result<Row, Fault>>, Fail> {
     let end = [((block(9, 0, 9), block(9, 9, 9)), 9)];
     let selectors = [0, 0, 0, 0, 0, 0];
     let numbers = [1, 2, 3];
@@ -84,11 +84,11 @@ fn run(heap: Global, bytes: &[u8]) -> Result<Vec<Result<Row, Fault>>, Fail> {
     let wide = ZipLongest::new(pairs, List::new(&numbers), none, 0);
     let totals = Accumulate::new(wide, Later, None);
     let mut stack = Chain::new(totals, List::new(&end));
-    Ok(collect(heap, &mut stack)?)
+    Ok(collect(alloc, &mut stack)?)
 }
 
-fn bytes_of(heap: Global, records: &[[u8; 12]]) -> Result<Vec<u8>, Fail> {
-    let mut bytes = Vec::new(heap);
+fn bytes_of(alloc: Global, records: &[[u8; 12]]) -> Result<Vec<u8>, Fail> {
+    let mut bytes = Vec::new(alloc);
     for one in records {
         bytes.extend_from_slice(one)?;
     }
@@ -97,9 +97,9 @@ fn bytes_of(heap: Global, records: &[[u8; 12]]) -> Result<Vec<u8>, Fail> {
 
 #[test]
 fn a_stack_of_eight_over_records(rt: HostRuntime) -> Result<(), Fail> {
-    let heap = rt.alloc();
-    let bytes = bytes_of(heap, &plan())?;
-    let rows = run(heap, bytes.as_slice())?;
+    let alloc = rt.alloc();
+    let bytes = bytes_of(alloc, &plan())?;
+    let rows = run(alloc, bytes.as_slice())?;
     let first = ((block(2, 40, 20), block(3, 70, 30)), 1);
     let second = ((block(3, 70, 30), block(4, 110, 10)), 2);
     let third = ((block(0, 0, 1), block(0, 0, 1)), 3);
@@ -113,11 +113,11 @@ fn a_stack_of_eight_over_records(rt: HostRuntime) -> Result<(), Fail> {
 
 #[test]
 fn a_fault_comes_up_through_eight(rt: HostRuntime) -> Result<(), Fail> {
-    let heap = rt.alloc();
+    let alloc = rt.alloc();
     let mut records = plan();
     records[3] = record(4, 110, 0);
-    let bytes = bytes_of(heap, &records)?;
-    let rows = run(heap, bytes.as_slice())?;
+    let bytes = bytes_of(alloc, &records)?;
+    let rows = run(alloc, bytes.as_slice())?;
     let fault = Fault {
         origin: Fault::SOURCE,
         cause: 5,

@@ -1,3 +1,4 @@
+use crate::faults::BROKEN;
 use crate::owners::one_step;
 use sources::{Block, List, Range, Records, Script};
 use std::alloc::Global;
@@ -14,12 +15,6 @@ const NO_BRANCH: Stepped = Err(CallError::Refused(Refusal::NoBranch));
 const FULL: Stepped = Err(CallError::Refused(Refusal::StoreFull));
 
 const END: Stepped = Ok(Answer::End);
-
-const BROKEN: Fault = Fault {
-    origin: 1,
-    cause: 3,
-    place: 40,
-};
 
 const FAULT: Stepped = Err(CallError::Broken(BROKEN));
 
@@ -153,8 +148,8 @@ fn copies_stand_where_their_originals_stand(rt: HostRuntime) -> Result<(), Fail>
     Ok(())
 }
 
-// What four steps of two branches tell over these steps, and what their store of two then holds: a fault
-// goes to the branch that drew it, and takes no place.
+// What four steps of two branches tell over these steps, and what their store of two then holds: a
+// fault goes to the branch that drew it, and takes no place.
 fn with_a_fault(steps: &[Step<u64>], branches: [usize; 4]) -> Option<([Stepped; 4], [u64; 2])> {
     let mut store = [9u64; 2];
     let mut tee = Tee::new(Script::new(steps), None, 2).ok()?;
@@ -260,10 +255,10 @@ fn tees_in_a_vector(rt: HostRuntime) -> Result<(), Fail> {
     Ok(())
 }
 
-fn call(heap: Global, ask: Ask) -> Call<u64> {
+fn call(alloc: Global, ask: Ask) -> Call<u64> {
     Call {
         ask,
-        other: Vec::new(heap),
+        other: Vec::new(alloc),
         told: None,
     }
 }

@@ -1,7 +1,31 @@
 -- One text behind another.
-use Rattle.std.proofs.Common.{◌≡◌, ℕ, ◌+◌, ◌-◌, ◌≤◌, List, [], ◌++◌, length, take, drop, sym, ap, ◌∙◌, arith, zero-add, append_assoc, length-append, length-drop, replicate, decimal}
+use Rattle.std.proofs.Common.{◌≡◌, ℕ, ◌+◌, ◌-◌, ◌≤◌, max, Ok, Err, Result, refl, List, [], ◌++◌, length, take, drop, sym, ap, ◌∙◌, arith, zero-add, append_assoc, length-append, length-drop, replicate, decimal}
+use Rattle.std.proofs.Math.Nat.{sub-add-eq-max}
 use Rattle.std.proofs.lemmas.List.{length-replicate, take-append-drop, length-take-le, take_at, drop_at, drop-drop}
-use Rattle.text.specs.Writer.{written, padded}
+use Rattle.std.proofs.lemmas.Bool.{cond_above}
+use Rattle.steps.specs.declared.refusal.Refusal.{Refusal}
+use Rattle.steps.specs.declared.refusal.Refusal.TheVariants.{ShortBuffer}
+use Rattle.text.specs.Writer.{written, place_behind, if_room, padded}
+
+-- Where a text fits, it is written, and the place behind it is answered.
+pub place_fits : (at size room : ℕ) → at + size ≤ room → place_behind at size room ≡ Ok (at + size)
+place_fits at size room h = sym (cond_above room (at + size) (Err ShortBuffer) (Ok (at + size)) (Ok (at + size)) h refl)
+
+pub text_fits : (at : ℕ) (text bytes : List ℕ) → at + length text ≤ length bytes → if_room at text bytes ≡ written at text bytes
+text_fits at text bytes h = sym (cond_above (length bytes) (at + length text) bytes (written at text bytes) (written at text bytes) h refl)
+
+pub same_place : (m n : ℕ) → ◌≡◌ {A = Result ℕ Refusal} (Ok m) (Ok n) → m ≡ n
+same_place m n e = cc
+
+pub place_is : (at size room end : ℕ) → at + size ≤ room → Ok end ≡ place_behind at size room → end ≡ at + size
+place_is at size room end h e = same_place end (at + size) (e ∙ place_fits at size room h)
+
+-- the answer of a call behind which nothing more is written
+pub answer_is : (at size room end : ℕ) (answer : Result ℕ Refusal) → at + size ≤ room → answer ≡ place_behind at size room → at + size ≡ end → answer ≡ Ok end
+answer_is at size room end answer h e place = e ∙ place_fits at size room h ∙ ap Ok place
+
+pub not_refused : (at size room : ℕ) (refusal : Refusal) → at + size ≤ room → Err refusal ≡ place_behind at size room → ⊥
+not_refused at size room refusal h e = let same = e ∙ place_fits at size room h in cc
 
 pub length-written : (at : ℕ) (text bytes : List ℕ) → at + length text ≤ length bytes → length (written at text bytes) ≡ length bytes
 length-written at text bytes h =
@@ -25,13 +49,17 @@ written_on at end a b bytes e h =
     ∙ append_assoc m a (b ++ drop (at + length (a ++ b)) bytes)
     ∙ ap (λ xs. m ++ xs) (sym (append_assoc a b (drop (at + length (a ++ b)) bytes)))
 
-pub padded_parts : (width n pad : ℕ) (digits : List ℕ) → digits ≡ decimal n → pad ≡ width - length digits → padded width n ≡ replicate pad 32 ++ digits
+-- a padded number is as long as the longer of its width and its digits
+pub padded_length : (width n : ℕ) → length (padded width n) ≡ max width (length (decimal n))
 unfolding padded
-padded_parts width n pad digits d p = ap (λ ds. replicate (width - length ds) 32 ++ ds) (sym d) ∙ ap (λ k. replicate k 32 ++ digits) (sym p)
+padded_length width n =
+    length-append (replicate (width - length (decimal n)) 32) (decimal n)
+    ∙ ap (λ k. k + length (decimal n)) (length-replicate (width - length (decimal n)) 32)
+    ∙ sub-add-eq-max width (length (decimal n))
 
-pub length-padded : (width n pad : ℕ) (digits : List ℕ) → digits ≡ decimal n → pad ≡ width - length digits → length (padded width n) ≡ pad + length digits
-length-padded width n pad digits d p =
-    ap length (padded_parts width n pad digits d p) ∙ length-append (replicate pad 32) digits ∙ ap (λ k. k + length digits) (length-replicate pad 32)
+pub padded_parts : (width n : ℕ) (digits : List ℕ) → digits ≡ decimal n → padded width n ≡ replicate (width - length digits) 32 ++ digits
+unfolding padded
+padded_parts width n digits d = sym (ap (λ ds. replicate (width - length ds) 32 ++ ds) d)
 
 -- a text that stands behind another, and where it ends
 pub written_more : (start at end : ℕ) (a b bytes now new : List ℕ) → at ≡ start + length a → now ≡ written start a bytes → end ≡ at + length b → end ≤ length bytes → new ≡ written at b now

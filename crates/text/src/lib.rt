@@ -1,4 +1,5 @@
-// Text that is written into lent bytes, without a heap: literal bytes, numbers in decimal, numbers padded to a width.
+// Text that is written into lent bytes, without a heap: literal bytes, numbers in decimal, numbers
+// padded to a width.
 
 #![tactic(auto)]
 

@@ -1,9 +1,10 @@
 use Rattle.std.proofs.Common.{refl, [], ◌∷◌}
+use Rattle.std.specs.Fmt.{digits}
 use Rattle.row_laws.specs.Lists.{product_rows, combination_rows, replacement_rows, permutation_rows, tuples, headed}
 use Rattle.tests.proofs.worked_examples.Goals as goal
 
 pub returns : goal.returns
-unfolding product_rows combination_rows replacement_rows permutation_rows tuples headed
+unfolding product_rows combination_rows replacement_rows permutation_rows tuples headed digits
 returns c = record {
   result = refl;
   law = record {
@@ -100,5 +101,12 @@ returns c = record {
     job_listed = refl;
     job_faulty = refl;
     job_refused = refl;
+    predicates_at_their_edges = (refl, refl, refl, refl, refl, refl, refl, refl, refl, refl);
+    predicates_of_others = (refl, refl, refl, refl, refl, refl, refl, refl, refl, refl, refl);
+    block_measured = (refl, refl, refl, refl, refl);
+    faults_in_words = (refl, refl, refl, refl, refl);
+    records_in_words = (refl, refl, refl, refl, refl, refl, refl);
+    refusals_in_words = (refl, refl, refl, refl, refl, refl, refl, refl, refl, refl, refl);
+    text_at_a_place = (refl, refl, refl, refl);
   };
 }

@@ -4,8 +4,8 @@ use Rattle.row_laws.specs.Listing.{row_line}
 use Rattle.row_laws.proofs.Listings.{first_short}
 use Rattle.enumerators.proofs.listing.write_next.Goals as goal
 
-pub write_row-end-requires : goal.write_row-end-requires
-write_row-end-requires g c =
+pub write_row-requires : goal.write_row-requires
+write_row-requires g c =
     let v = g.E.Enumerator.shown c.args.enumerator.now in
     let fits = g.met.E.Enumerator.fits c.args.enumerator.now in
     let short : length (row_line c.in-Some.row.now) ≤ max 1 (4 * v.width) =

@@ -1,14 +1,14 @@
-use Rattle.std.proofs.Common.{refl, mul-le-mul_right, length-append, ◌≡◌, ◌+◌, ◌*◌, ◌≤◌, ◌<◌, max, length, take, drop, arith, ap, ◌∙◌}
+use Rattle.std.proofs.Common.{refl, mul-le-mul_right, length-append, ◌≡◌, ◌+◌, ◌*◌, ◌≤◌, ◌<◌, max, length, take, drop, Ok, arith, ap, ◌∙◌}
 use Rattle.std.specs.List.{flat_map}
 use Rattle.text.specs.Writer.{written}
-use Rattle.text.proofs.WriterLemmas.{written_more}
+use Rattle.text.proofs.WriterLemmas.{same_place, written_more}
 use Rattle.row_laws.specs.Calls.{leaving}
 use Rattle.row_laws.specs.Listing.{row_line}
 use Rattle.row_laws.proofs.Listings.{lines_short, rows_short, room_left, lines_more, leaving_more}
 use Rattle.enumerators.proofs.listing.write_rows.Goals as goal
 
-pub write_next-at-requires : goal.write_next-at-requires
-write_next-at-requires g c =
+pub write_next-requires : goal.write_next-requires
+write_next-requires g c =
     let v = g.E.Enumerator.shown c.args.enumerator.now in
     let fits = g.met.E.Enumerator.fits c.args.enumerator.now in
     let i = c.loop-row._row in
@@ -27,15 +27,15 @@ loop-row-preserved g c =
     let few : i < 100 = c.loop-row-test.true in
     let bytes = c.args.buffer.now in
     let inv = c.loop-row.invariant in
-    let next = c.write_next-at.ensures in
+    let next = c.write_next.ensures in
     let a = flat_map row_line (take i v.ahead) in
     let b = flat_map row_line (take 1 (drop i v.ahead)) in
     let step : length (flat_map row_line (take (i + 1) v.ahead)) ≤ (i + 1) * m = rows_short m (i + 1) v.ahead (lines_short v.width v.ahead fits.uniform fits.low) in
-    let now : c.write_next-at.result ≡ c.loop-row.at + length b = next.end ∙ ap (λ u. c.loop-row.at + length (flat_map row_line (take 1 u.ahead))) inv.0 in
+    let now : c.in_ok-at.at ≡ c.loop-row.at + length b = same_place _ _ c.in_ok-at.ensures.end ∙ ap (λ u. c.loop-row.at + length (flat_map row_line (take 1 u.ahead))) inv.0 in
     let most : (i + 1) * m ≤ 100 * m = mul-le-mul_right m (omega arith) in
-    let left : c.write_next-at.result ≤ length bytes =
+    let left : c.in_ok-at.at ≤ length bytes =
     omega (arith, now, inv.1, ap length (lines_more i v.ahead), length-append a b, step, most, c.requires.room) in
-    let both = written_more 0 c.loop-row.at c.write_next-at.result a b bytes c.loop-row.buffer c.write_next-at.new.buffer inv.1 inv.2 now left
+    let both = written_more 0 c.loop-row.at c.in_ok-at.at a b bytes c.loop-row.buffer c.write_next.new.buffer inv.1 inv.2 now left
     (next.writes ∙ ap (λ u. written c.loop-row.at (flat_map row_line (take 1 u.ahead)) c.loop-row.buffer) inv.0) in (
       next.shows ∙ ap (leaving 1) inv.0 ∙ leaving_more i v,
       both.0 ∙ ap (λ t. 0 + length t) (lines_more i v.ahead),
@@ -49,7 +49,7 @@ pub returns-clause-end : goal.returns-clause-end
 returns-clause-end g c =
     let v = g.E.Enumerator.shown c.args.enumerator.now in
     let all : c.loop-row._row ≡ 100 = omega arith in
-    c.loop-row.invariant.1 ∙ ap (λ k. 0 + length (flat_map row_line (take k v.ahead))) all
+    ap Ok (c.loop-row.invariant.1 ∙ ap (λ k. 0 + length (flat_map row_line (take k v.ahead))) all)
 
 pub returns-clause-writes : goal.returns-clause-writes
 returns-clause-writes g c =

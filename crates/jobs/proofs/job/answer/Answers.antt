@@ -1,6 +1,7 @@
-use Rattle.std.proofs.Common.{length, take, Ok, Err, ap, subst, ◌∙◌}
+use Rattle.std.proofs.Common.{length, take, Ok, Err, ap, sym, subst, ◌∙◌}
 use Rattle.steps.specs.declared.call_error.CallError.TheVariants.{Refused, Broken}
 use Rattle.sources.specs.Frame.{framed}
+use Rattle.text.proofs.WriterLemmas.{same_place}
 use Rattle.row_laws.specs.Calls.{at_front}
 use Rattle.jobs.specs.Job.{JobListed, job_of, answer_text, fault_text, refusal_text}
 use Rattle.jobs.proofs.JobLemmas.{cut_at, listed_text, faulty_text, refused_text}
@@ -30,7 +31,8 @@ returns-in-Err-Broken-clause-count c =
     let first = rw c.in-Err-Broken.field-0-is at c.in-Err-Broken.ensures in
     let h = subst (λ bs. JobListed (job_of (framed bs)) (Err (Broken f)) c.args.text.now c.list_first.new.text) (cut_at c.min.result 4096 input c.min.ensures) first in
     let told = faulty_text (job_of (framed (take 4096 input))) f c.args.text.now c.list_first.new.text h in
-    c.write_labelled.ensures.end ∙ ap (λ n. length (fault_text n)) c.from.ensures ∙ ap length told.0
+    same_place c.unwrap.result (length (fault_text c.from.result)) (sym c.unwrap.ensures ∙ c.write_labelled.ensures.end)
+    ∙ ap (λ n. length (fault_text n)) c.from.ensures ∙ ap length told.0
 
 pub returns-in-Err-Broken-clause-writes : goal.returns-in-Err-Broken-clause-writes
 returns-in-Err-Broken-clause-writes c =
@@ -44,7 +46,7 @@ returns-in-Err-Broken-clause-writes c =
 
 pub returns-in-Err-Broken-clause-law : goal.returns-in-Err-Broken-clause-law
 returns-in-Err-Broken-clause-law c =
-    printed c.args.input.now c.write_labelled.result c.args.text.now c.write_labelled.new.text (returns-in-Err-Broken-clause-count c) (returns-in-Err-Broken-clause-writes c)
+    printed c.args.input.now c.unwrap.result c.args.text.now c.write_labelled.new.text (returns-in-Err-Broken-clause-count c) (returns-in-Err-Broken-clause-writes c)
 
 pub returns-in-Err-Refused-clause-count : goal.returns-in-Err-Refused-clause-count
 returns-in-Err-Refused-clause-count c =
@@ -53,7 +55,9 @@ returns-in-Err-Refused-clause-count c =
     let first = rw c.in-Err-Refused.field-0-is at c.in-Err-Refused.ensures in
     let h = subst (λ bs. JobListed (job_of (framed bs)) (Err (Refused refusal)) c.args.text.now c.list_first.new.text) (cut_at c.min.result 4096 input c.min.ensures) first in
     let told = refused_text (job_of (framed (take 4096 input))) refusal c.args.text.now c.list_first.new.text h in
-    c.write_labelled-in-Err-Refused.ensures.end ∙ ap (λ n. length (refusal_text n)) (c.from-in-Err-Refused.ensures ∙ c.number.ensures) ∙ ap length told.0
+    same_place c.unwrap-in-Err-Refused.result (length (refusal_text c.from-in-Err-Refused.result))
+    (sym c.unwrap-in-Err-Refused.ensures ∙ c.write_labelled-in-Err-Refused.ensures.end)
+    ∙ ap (λ n. length (refusal_text n)) (c.from-in-Err-Refused.ensures ∙ c.number.ensures) ∙ ap length told.0
 
 pub returns-in-Err-Refused-clause-writes : goal.returns-in-Err-Refused-clause-writes
 returns-in-Err-Refused-clause-writes c =
@@ -67,4 +71,4 @@ returns-in-Err-Refused-clause-writes c =
 
 pub returns-in-Err-Refused-clause-law : goal.returns-in-Err-Refused-clause-law
 returns-in-Err-Refused-clause-law c =
-    printed c.args.input.now c.write_labelled-in-Err-Refused.result c.args.text.now c.write_labelled-in-Err-Refused.new.text (returns-in-Err-Refused-clause-count c) (returns-in-Err-Refused-clause-writes c)
+    printed c.args.input.now c.unwrap-in-Err-Refused.result c.args.text.now c.write_labelled-in-Err-Refused.new.text (returns-in-Err-Refused-clause-count c) (returns-in-Err-Refused-clause-writes c)

@@ -31,8 +31,8 @@ loop-block-preserved-in-Ok-Item c =
     subst (λ (o : Option Block). Counted all c.with_block-account.result o (get nat_eq c.lay.new.self.standings) (records_from c.next.new.self.frames.bytes.now c.next.new.self.frames.at)) (sym laid.last)
     (subst (Counted all c.with_block-account.result (Some b) (get nat_eq c.lay.new.self.standings)) (sym c.next.ensures.leaves) on)
 
-pub returns-in-Ok-End-clause-law : goal.returns-in-Ok-End-clause-law
-returns-in-Ok-End-clause-law c =
+pub returns-in-Ok-End-clause-verdict : goal.returns-in-Ok-End-clause-verdict
+returns-in-Ok-End-clause-verdict c =
     let all = records_from c.args.bytes.now 0 in
     let ss = records_from c.loop-block.records.frames.bytes.now c.loop-block.records.frames.at in
     let none : ss ≡ [] = at_end ss (sym c.next.ensures.gives ∙ c.in-Ok-End.is ∙ ap Ok c.in-Ok-End.field-0-is) in

@@ -1,4 +1,4 @@
-use Rattle.std.proofs.Common.{◌≡◌, sym, ap, ◌∙◌, rules}
+use Rattle.std.proofs.Common.{◌≡◌, ap, ◌∙◌, rules}
 use Rattle.groups.specs.GroupBy.{standing, taking}
 use Rattle.tests.proofs.lent_groups.item_of_group.Goals as goal
 

@@ -28,7 +28,7 @@ returns-in-Ok-End g c =
     let ts0 = g.S.Source.ahead c.args.self.now.selectors in
     record {
       meets = sym (earlier_none c.loop-met.met) ∙ ap (λ ss. earlier c.loop-met.met (first_fault ss)) (sym nil) ∙ i.met;
-      ended = e.ends ∙ over;
+      stands = e.stands ∙ over;
       below_items = items;
       below_selectors = selectors;
       law = λ f.
@@ -53,7 +53,7 @@ loop-met-preserved g c =
     let ahead = compresses p s.ended ds ts in
     record {
       predicate = e.keeps ∙ i.predicate;
-      end = ap (λ b. compress_ends b (g.D.Source.ahead t.items) (g.S.Source.ahead t.selectors)) e.ends
+      end = ap (λ b. compress_ends b (g.D.Source.ahead t.items) (g.S.Source.ahead t.selectors)) e.stands
           ∙ ap (λ us. compress_ends after.ended us (g.S.Source.ahead t.selectors)) e.below_items
           ∙ ap (λ us. compress_ends after.ended after.data_left us) e.below_selectors
           ∙ compress_stays p s.ended ds ts ∙ i.end;

@@ -20,8 +20,8 @@ returns-in-Ok-End g c =
     let nil : slices s.stop s.step s.next s.cur ss ≡ [] = end_first (slices s.stop s.step s.next s.cur ss) (sym e.gives ∙ end) in
     let stop = e.keeps.0 in
     let step = e.keeps.1 in
-    let next = e.counts.0 in
-    let cur = e.counts.1 in
+    let next = e.stands.0 in
+    let cur = e.stands.1 in
     let left = e.below in
     let again = end_rests s.stop s.step ss s.next s.cur nil in
     let rests : (slice_after t.stop t.step t.next t.cur (g.S.Source.ahead t.source)).left ≡ g.S.Source.ahead t.source = cc in
@@ -48,8 +48,8 @@ loop-met-preserved g c =
       step = e.keeps.1 ∙ i.step;
       end = ap (λ o. slice_end o t.step t.next t.cur (g.S.Source.ahead t.source)) e.keeps.0
           ∙ ap (λ k. slice_end s.stop k t.next t.cur (g.S.Source.ahead t.source)) e.keeps.1
-          ∙ ap (λ o. slice_end s.stop s.step o t.cur (g.S.Source.ahead t.source)) e.counts.0
-          ∙ ap (λ k. slice_end s.stop s.step after.next k (g.S.Source.ahead t.source)) e.counts.1
+          ∙ ap (λ o. slice_end s.stop s.step o t.cur (g.S.Source.ahead t.source)) e.stands.0
+          ∙ ap (λ k. slice_end s.stop s.step after.next k (g.S.Source.ahead t.source)) e.stands.1
           ∙ ap (λ us. slice_end s.stop s.step after.next after.cur us) e.below
           ∙ end_stays s.stop s.step ss s.next s.cur ∙ i.end;
       met = ap (λ o. earlier o (first_fault (slices t.stop t.step t.next t.cur (g.S.Source.ahead t.source)))) (c.keep_first-met.ensures ∙ ap (kept_first c.loop-met.met) e.gives)

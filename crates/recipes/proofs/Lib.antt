@@ -1,0 +1,6 @@
+pub mod AnswerLemmas
+pub mod CallLemmas
+pub mod ListLemmas
+pub mod SliceLemmas
+pub mod ChainLemmas
+pub mod AlikeLemmas

@@ -9,7 +9,7 @@ comment, the Rattle as it is. The exit status is 1 where something differs.
 import re
 import sys
 from collections import deque, namedtuple
-from itertools import accumulate, chain, dropwhile, filterfalse, groupby, islice
+from itertools import accumulate, chain, combinations, dropwhile, filterfalse, groupby, islice
 from itertools import pairwise, repeat, tee, zip_longest
 from operator import attrgetter, itemgetter, mul
 from pathlib import Path
@@ -68,6 +68,7 @@ CALLS = {
     "triplewise": lambda f: list(f(range(5))),
     "ncycles": lambda f: list(f(range(3), 2)),
     "partition": lambda f: tuple(map(list, f(at_least_three, range(6)))),
+    "powerset": lambda f: list(map(list, f([1, 2, 3]))),
 }
 
 

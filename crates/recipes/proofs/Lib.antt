@@ -4,3 +4,5 @@ pub mod ListLemmas
 pub mod SliceLemmas
 pub mod ChainLemmas
 pub mod AlikeLemmas
+pub mod SubsetLemmas
+pub mod RunLemmas

@@ -1,13 +1,16 @@
 -- Lists of items in front of the steps that are still ahead, and what recipes make of them.
-use Rattle.std.proofs.Common.{◌≡◌, ℕ, zero, suc, ◌+◌, ◌-◌, ◌/◌, ◌%◌, ◌*◌, ◌<◌, ◌≤◌, List, [], ◌∷◌, ◌++◌, map, length, replicate, Ok, Err, refl, sym, ap, ◌∙◌, arith, Bool, true, false, not, cond}
+use Rattle.std.proofs.Common.{◌≡◌, ℕ, zero, suc, ◌+◌, ◌-◌, ◌/◌, ◌%◌, ◌*◌, ◌<◌, ◌≤◌, List, [], ◌∷◌, ◌++◌, map, length, replicate, Ok, Err, Result, refl, sym, ap, ◌∙◌, subst, arith, Bool, true, false, not, cond}
 use Rattle.std.proofs.lemmas.List.{append_assoc, length-append, length-replicate}
 use Rattle.std.proofs.Math.Nat.{mod-add-div', add-mod_left, mul-mod_left}
-use Rattle.steps.specs.Steps.{Step, rest}
+use Rattle.std.specs.declared.alloc.AllocError.{AllocError}
+use Rattle.steps.specs.Steps.{Step, first, rest}
 use Rattle.steps.specs.declared.fault.Fault.{Fault}
 use Rattle.laws.specs.Items.{items, faults}
 use Rattle.laws.specs.Pairwise.{paired, unpaired}
 use Rattle.laws.proofs.Pairwise.{pairwise_faults}
-use Rattle.recipes.specs.Lists.{OverItems, triples_of, times, InRuns, differing}
+use Rattle.recipes.specs.declared.rule_error.RuleError.{RuleError}
+use Rattle.recipes.specs.declared.rule_error.RuleError.TheVariants.{Broken, Refused, Memory}
+use Rattle.recipes.specs.Lists.{OverItems, OnFault, FirstOf, triples_of, times, InRuns, differing}
 
 pub listed_more : {A : Type 0} (xs : List A) (a : A) (ss : List (Step A)) → map Ok xs ++ Ok a ∷ ss ≡ map Ok (xs ++ a ∷ []) ++ ss
 listed_more [] a ss = refl
@@ -104,3 +107,48 @@ differ_on equal all ds more fs a b ss left d e f n inv m =
       inv.0 ∙ ap faults w,
       inv.1 ∙ ap (λ us. ds ++ differing equal (items us)) w ∙ differ_by (equal a b) ds a b (differing equal (items left)) ∙ ap (λ us. us ++ differing equal (items left)) (ap (λ c. cond c (ds ++ (a, b) ∷ []) ds) (sym n) ∙ sym m),
     )
+
+-- ---- the fault that ended a list is the first of those ahead
+
+behind_items : {A : Type 0} (xs : List A) (ss : List (Step A)) → faults (map Ok xs ++ ss) ≡ faults ss
+behind_items [] ss = refl
+behind_items (x ∷ xs) ss = behind_items xs ss
+
+pub on_fault : {X : Type 0} {r : Result X RuleError} {e : RuleError} {f : Fault} (P : Fault → Type 0) → r ≡ Err e → e ≡ Broken f → P f → OnFault r P
+on_fault P r e h = subst (λ u. OnFault u P) (sym (r ∙ ap Err e)) h
+
+pub on_memory : {X : Type 0} {r : Result X RuleError} {e : RuleError} {m : AllocError} (P : Fault → Type 0) → r ≡ Err e → e ≡ Memory m → OnFault r P
+on_memory P r e = subst (λ u. OnFault u P) (sym (r ∙ ap Err e)) tt
+
+-- what holds of the fault of an error, whatever kind of list was wanted
+abbrev pub OfError : RuleError → (Fault → Type 0) → Type 0
+OfError e P = OnFault {A = Unit {0}} (Err e) P
+
+for_any : (X : Type 0) (e : RuleError) (P : Fault → Type 0) → OfError e P → OnFault {A = X} (Err e) P
+for_any X (Broken f) P h = h
+for_any X (Refused n) P h = h
+for_any X (Memory m) P h = h
+
+pub on_error : {X : Type 0} {r : Result X RuleError} {e d : RuleError} (P : Fault → Type 0) → r ≡ Err e → e ≡ d → OfError d P → OnFault r P
+on_error {X} {r} {e} {d} P w i h = subst (λ u. OnFault u P) (sym (w ∙ ap Err i)) (for_any X d P h)
+
+-- a call met it
+pub met_fault : {A : Type 0} (ss : List (Step A)) (f : Fault) → Err f ≡ first ss → FirstOf (faults ss) f
+met_fault [] f e = cc
+met_fault (Ok a ∷ ss) f e = cc
+met_fault (Err g ∷ ss) f e = (faults ss, cc)
+
+pub met_behind : {A : Type 0} (all ss : List (Step A)) (xs : List A) (f : Fault) → all ≡ map Ok xs ++ ss → Err f ≡ first ss → FirstOf (faults all) f
+met_behind all ss xs f e m = let h = met_fault ss f m in (h.0, ap faults e ∙ behind_items xs ss ∙ h.1)
+
+pub met_first : {A : Type 0} (all : List Fault) (ss : List (Step A)) (f : Fault) → all ≡ faults ss → Err f ≡ first ss → FirstOf all f
+met_first all ss f e m = let h = met_fault ss f m in (h.0, e ∙ h.1)
+
+pub first_of_both : (fs gs all : List Fault) (f : Fault) → fs ++ gs ≡ all → FirstOf fs f → FirstOf all f
+first_of_both fs gs all f e h = (h.0 ++ gs, sym e ∙ ap (λ us. us ++ gs) h.1)
+
+pub OnFault-weaker : {X : Type 0} (r : Result X RuleError) (P Q : Fault → Type 0) → ((f : Fault) → P f → Q f) → OnFault r P → OnFault r Q
+OnFault-weaker (Ok v) P Q w h = tt
+OnFault-weaker (Err (Broken f)) P Q w h = w f h
+OnFault-weaker (Err (Refused n)) P Q w h = tt
+OnFault-weaker (Err (Memory e)) P Q w h = tt

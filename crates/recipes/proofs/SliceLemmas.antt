@@ -1,13 +1,17 @@
--- What an islice gives, where it meets no fault.
+-- What an islice gives, where it meets no fault, and which fault it gives first.
 use Rattle.std.proofs.Common.{◌≡◌, ℕ, zero, suc, ◌+◌, ◌*◌, ◌^◌, ◌<◌, ◌≤◌, ◌⊎◌, inl, inr, Bool, true, false, cond, nat_le, nat_lt, List, [], ◌∷◌, ◌++◌, map, length, take, Some, None, Option, Ok, Err, refl, sym, ap, ◌∙◌, subst, arith}
 use Rattle.std.specs.List.{slice_get}
 use Rattle.std.proofs.lemmas.Bool.{cond-true, cond-false, ltb-false}
 use Rattle.std.proofs.lemmas.Option.{slice_get_past}
 use Rattle.steps.specs.Steps.{Step}
 use Rattle.laws.specs.Items.{items, faults, given}
-use Rattle.recipes.specs.Lists.{OverItems, EachThird}
+use Rattle.steps.specs.declared.fault.Fault.{Fault}
+use Rattle.recipes.specs.Lists.{OverItems, FirstOf, EachThird}
 use Rattle.recipes.proofs.ListLemmas.{all_items, over_items}
 use Rattle.laws.specs.Islice.{Bounds, SliceMade, below_stop, slice_end, bounds, maxsize, until, raised, counted, slices}
+
+no_fault : {f : Fault} {fs : List Fault} → ◌≡◌ {A = List Fault} [] (f ∷ fs) → ⊥
+no_fault e = cc
 
 take_none : {A : Type 0} (k : ℕ) → take {A = A} k [] ≡ []
 take_none zero = refl
@@ -37,6 +41,17 @@ taken_from (suc k) c (Ok a ∷ ss) (x ∷ xs) h e =
 taken_from (suc k) c (Err f ∷ ss) [] h e = let z : nat_le (c + suc k) c ≡ false = grind arith in let w = sym (cond-false _ _ _ z) ∙ e in cc
 taken_from (suc k) c (Err f ∷ ss) (x ∷ xs) h e = let z : nat_le (c + suc k) c ≡ false = grind arith in let w = sym (cond-false _ _ _ z) ∙ e in cc
 
+-- the first fault of what is given is the first among those k steps
+broken_from : {A : Type 0} (k c : ℕ) (ss : List (Step A)) (f : Fault) → c + k < 2 ^ 64 → FirstOf (faults (slices (Some (c + k)) 1 (Some c) c ss)) f → FirstOf (faults (take k ss)) f
+broken_from k c [] f h e = let n = e.1 in absurd (no_fault n)
+broken_from zero c (Ok a ∷ ss) f h e = let z : nat_le (c + 0) c ≡ true = grind arith in absurd (no_fault (sym (ap faults (cond-true _ _ _ z)) ∙ e.1))
+broken_from zero c (Err g ∷ ss) f h e = let z : nat_le (c + 0) c ≡ true = grind arith in absurd (no_fault (sym (ap faults (cond-true _ _ _ z)) ∙ e.1))
+broken_from (suc k) c (Ok a ∷ ss) f h e = broken_from k (c + 1) ss f (omega arith) (e.0, sym (ap faults (give_one k c a ss h)) ∙ e.1)
+broken_from (suc k) c (Err g ∷ ss) f h e =
+    let z : nat_le (c + suc k) c ≡ false = grind arith in
+    let w = sym (ap faults (cond-false _ _ _ z)) ∙ e.1 in
+    (faults (take k ss), cc)
+
 -- arguments that are read are those that were given, and the stop is no more than the limit
 read_one : (n : ℕ) (read : Bounds) → bounds (Some n ∷ []) ≡ Some read → (read ≡ record { start = 0; stop = Some n; step = 1 }) × (n ≤ maxsize)
 read_one n read e = grind arith
@@ -45,18 +60,28 @@ until_one : (n : ℕ) → until 0 (Some n) ≡ Some n
 until_one zero = refl
 until_one (suc n) = let z : nat_lt 0 (suc n) ≡ true = grind arith in ap Some (cond-true _ _ _ z)
 
-pub taken : {A : Type 0} (n : ℕ) (ss : List (Step A)) (cur : ℕ) (next stop : Option ℕ) (step : ℕ) (xs : List A) → SliceMade (Some n ∷ []) ss cur next stop step →
-    slices stop step next cur ss ≡ map Ok xs → take n ss ≡ map Ok xs
-taken n ss cur next stop step xs m e =
+-- what an islice of one argument gives
+taken_is : {A : Type 0} (n : ℕ) (ss : List (Step A)) (cur : ℕ) (next stop : Option ℕ) (step : ℕ) → SliceMade (Some n ∷ []) ss cur next stop step →
+    (slices stop step next cur ss ≡ slices (Some (0 + n)) 1 (Some 0) 0 ss) × (0 + n < 2 ^ 64)
+taken_is n ss cur next stop step m =
     let r = read_one n m.read m.from_arguments in
     let a : cur ≡ 0 = m.none_drawn in
     let b : next ≡ Some 0 = m.next_is ∙ ap (λ (q : Bounds). Some q.start) r.0 in
     let c : stop ≡ Some n = m.stop_is ∙ ap (λ (q : Bounds). until q.start q.stop) r.0 ∙ until_one n in
     let d : step ≡ 1 = m.step_is ∙ ap (λ (q : Bounds). q.step) r.0 in
-    let s : slices (Some n) 1 (Some 0) 0 ss ≡ map Ok xs =
-    ap (λ o. slices o 1 (Some 0) 0 ss) (sym c) ∙ ap (λ u. slices stop u (Some 0) 0 ss) (sym d) ∙ ap (λ o. slices stop step o 0 ss) (sym b) ∙ ap (λ u. slices stop step next u ss) (sym a) ∙ e in
-    let z : 0 + n ≡ n = omega arith in
-    taken_from n 0 ss xs (omega (arith, r.1)) (ap (λ k. slices (Some k) 1 (Some 0) 0 ss) z ∙ s)
+    let z : n ≡ 0 + n = omega arith in (
+      ap (λ u. slices stop step next u ss) a ∙ ap (λ o. slices stop step o 0 ss) b ∙ ap (λ u. slices stop u (Some 0) 0 ss) d ∙ ap (λ o. slices o 1 (Some 0) 0 ss) c
+          ∙ ap (λ k. slices (Some k) 1 (Some 0) 0 ss) z,
+      omega (arith, r.1),
+    )
+
+pub taken : {A : Type 0} (n : ℕ) (ss : List (Step A)) (cur : ℕ) (next stop : Option ℕ) (step : ℕ) (xs : List A) → SliceMade (Some n ∷ []) ss cur next stop step →
+    slices stop step next cur ss ≡ map Ok xs → take n ss ≡ map Ok xs
+taken n ss cur next stop step xs m e = let i = taken_is n ss cur next stop step m in taken_from n 0 ss xs i.1 (sym i.0 ∙ e)
+
+pub broken : {A : Type 0} (n : ℕ) (ss : List (Step A)) (cur : ℕ) (next stop : Option ℕ) (step : ℕ) (f : Fault) → SliceMade (Some n ∷ []) ss cur next stop step →
+    FirstOf (faults (slices stop step next cur ss)) f → FirstOf (faults (take n ss)) f
+broken n ss cur next stop step f m e = let i = taken_is n ss cur next stop step m in broken_from n 0 ss f i.1 (e.0, sym (ap faults i.0) ∙ e.1)
 
 read_thirds : (read : Bounds) → bounds (Some 1 ∷ (None ∷ (Some 3 ∷ []))) ≡ Some read → read ≡ record { start = 1; stop = None; step = 3 }
 read_thirds read e = cc

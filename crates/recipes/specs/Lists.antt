@@ -3,6 +3,8 @@ use Rattle.std.specs.Prelude.{◌≡◌, ℕ, zero, suc, ◌+◌, ◌*◌, ◌%�
 use Rattle.std.specs.List.{slice_get}
 use Rattle.steps.specs.Steps.{Step}
 use Rattle.steps.specs.Refusals.{refusal_number}
+use Rattle.steps.specs.declared.fault.Fault.{Fault}
+use Rattle.laws.specs.Runs.{Run, Runs}
 use Rattle.recipes.specs.declared.rule_error.RuleError.{RuleError}
 use Rattle.recipes.specs.declared.rule_error.RuleError.TheVariants.{Broken, Refused, Memory}
 
@@ -19,6 +21,17 @@ refusal_of (Err e) = number_of e
 -- all steps are items, and this holds of their list
 abbrev pub OverItems : {A : Type 0} → List (Step A) → (List A → Type 0) → Type 0
 OverItems {A} ss P = (xs : List A) × (ss ≡ map Ok xs) × P xs
+
+-- where a fault ended it, this holds of that fault
+abbrev pub OnFault : {A : Type 0} → Result A RuleError → (Fault → Type 0) → Type 0
+OnFault (Ok v) P = Unit {0}
+OnFault (Err (Broken f)) P = P f
+OnFault (Err (Refused r)) P = Unit {0}
+OnFault (Err (Memory e)) P = Unit {0}
+
+-- it is the first of some faults
+abbrev pub FirstOf : List Fault → Fault → Type 0
+FirstOf fs f = (more : List Fault) × (fs ≡ f ∷ more)
 
 -- each three in a row
 abbrev pub triples_of : {A : Type 0} → List A → List (A × A × A)
@@ -49,3 +62,7 @@ EachThird xs ys = (k : ℕ) → slice_get ys k ≡ slice_get xs (1 + k * 3)
 abbrev pub differing : {A : Type 0} → (A → A → Bool) → List (A × A) → List (A × A)
 differing equal [] = []
 differing equal (p ∷ ps) = cond (equal p.0 p.1) (differing equal ps) (p ∷ differing equal ps)
+
+-- the items divide into runs, longest stretches whose keys equal their first key, and these are the first items of the runs
+abbrev pub FirstOfEachRun : {A Q : Type 0} → (A → Result Q Fault) → (Q → Q → Bool) → List A → List A → Type 0
+FirstOfEachRun {A} {Q} key same xs ys = (rs : List (Run A Q)) × Runs key same xs rs × (ys ≡ map (λ r. r.first) rs)

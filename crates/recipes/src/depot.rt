@@ -1,12 +1,12 @@
 ghost use Rattle.std.specs.Prelude.{◌≡◌, ◌+◌, ◌^◌, ◌≤◌, length, None, Some, IfOk};
 ghost use Rattle.std.proofs.Common.{rules};
 ghost use Rattle.laws.specs.Accumulate.{from_initial};
-ghost use Rattle.laws.specs.Items.{items as items_of};
+ghost use Rattle.laws.specs.Items.{items as items_of, faults};
 ghost use Rattle.laws.specs.ZipLongest.{zipped};
 ghost use Rattle.rules.specs.Joining.{sum};
 ghost use Rattle.rules.specs.Predicate.{lasts};
 ghost use Rattle.recipes.specs.Answers.{first_of, above};
-ghost use Rattle.recipes.specs.Lists.{OverItems, EachThird, differing};
+ghost use Rattle.recipes.specs.Lists.{refusal_of, OverItems, OnFault, FirstOf, EachThird, differing};
 
 use crate::answers::first_true;
 use crate::lists::list_of;
@@ -121,6 +121,8 @@ pub fn third_slots<S: Source<Item = u64> + Drop>(
 where
     ensures answer { IfOk result (λ v. length (items_of (S.Source.ahead slots)) + 3 ≤ 2 ^ 64 →
         OverItems (S.Source.ahead slots) (λ xs. EachThird xs v.items)) }
+    ensures number { refusal_of result ≡ None }
+    ensures fault { OnFault result (FirstOf (faults (S.Source.ahead slots))) }
 {
     list_of(alloc, Islice::new(slots, &[Some(1), None, Some(3)])?)
 }
@@ -145,6 +147,9 @@ where
     ensures answer { IfOk result (λ v. OverItems
         (zipped None None (P.Source.ahead plan) (A.Source.ahead actual))
         (λ ps. v.items ≡ differing ⟦<Option<Block> as PartialEq>⟧.eq ps)) }
+    ensures number { refusal_of result ≡ None }
+    ensures fault { OnFault result (FirstOf (faults
+        (zipped None None (P.Source.ahead plan) (A.Source.ahead actual)))) }
 {
     let mut differ = Vec::new(alloc);
     let mut sides = ZipLongest::new(plan, actual, None, None);

@@ -2,6 +2,7 @@ ghost use Rattle.std.specs.Prelude.{
   ◌≡◌,
   ◌++◌,
   ◌-◌,
+  ◌^◌,
   cond,
   nat_lt,
   length,
@@ -17,16 +18,20 @@ ghost use Rattle.std.specs.Prelude.{
   ◌<◌,
 };
 ghost use Rattle.laws.specs.Islice.{maxsize};
-ghost use Rattle.laws.specs.Items.{Decided};
+ghost use Rattle.laws.specs.GroupBy.{keyed, most_groups};
+ghost use Rattle.laws.specs.Items.{Decided, faults};
 ghost use Rattle.rules.specs.Combined.{turned};
 ghost use Rattle.recipes.specs.Answers.{kept_of};
 ghost use Rattle.recipes.specs.Lists.{
   refusal_of,
   OverItems,
+  OnFault,
+  FirstOf,
   triples_of,
   times,
   places_of,
   InRuns,
+  FirstOfEachRun,
 };
 
 use crate::rule_error::RuleError;
@@ -50,6 +55,7 @@ where
     S::Item: Drop,
     ensures answer { IfOk result (λ v. S.Source.ahead source ≡ map Ok v.items) }
     ensures number { refusal_of result ≡ None }
+    ensures fault { OnFault result (FirstOf (faults (S.Source.ahead source))) }
 {
     let mut items = Vec::new(alloc);
     while let Answer::Item(item) = source.next()? {
@@ -71,6 +77,7 @@ where
     S::Item: Drop,
     ensures answer { IfOk result (λ v. first_of n (S.Source.ahead source) ≡ map Ok v.items) }
     ensures number { refusal_of result ≡ cond (nat_lt maxsize n) (Some 5) None }
+    ensures fault { OnFault result (FirstOf (faults (first_of n (S.Source.ahead source)))) }
 {
     list_of(alloc, Islice::new(source, &[Some(n)])?)
 }
@@ -88,6 +95,8 @@ where
     S::Item: Drop,
     ensures answer { IfOk result (λ v. OverItems (S.Source.ahead source)
         (λ xs. v.items ≡ past_first (length xs - n) xs)) }
+    ensures number { refusal_of result ≡ None }
+    ensures fault { OnFault result (FirstOf (faults (S.Source.ahead source))) }
 {
     let mut items = list_of(alloc, source)?;
     let from = items.len().saturating_sub(n);
@@ -110,6 +119,9 @@ where
     T: Drop,
     ensures answer { IfOk result (λ v. A.Source.ahead a ++ (B.Source.ahead b ++ C.Source.ahead c)
         ≡ map Ok v.items) }
+    ensures number { refusal_of result ≡ None }
+    ensures fault { OnFault result (FirstOf (faults
+        (A.Source.ahead a ++ (B.Source.ahead b ++ C.Source.ahead c)))) }
 {
     list_of(alloc, Chain::new(a, Chain::new(b, c)))
 }
@@ -130,13 +142,15 @@ pub fn unique_justseen<S: Source + Drop, K: Keying<S::Item> + Drop>(
 where
     S::Item: Copy,
     K::Key: Copy,
+    ensures answer { IfOk result (λ v. OverItems (S.Source.ahead source)
+        (λ xs. FirstOfEachRun (K.Keying.key keys) K.Key.eq xs v.items)) }
+    ensures number { length (S.Source.ahead source) < most_groups → refusal_of result ≡ None }
+    ensures fault { OnFault result
+        (FirstOf (faults (keyed (K.Keying.key keys) (S.Source.ahead source)))) }
 {
     let mut firsts = Vec::new(alloc);
     let mut groups = GroupBy::new(source, keys);
-    for _ in 0..u64::MAX {
-        let Answer::Item((_, number)) = groups.group()? else {
-            break;
-        };
+    while let Answer::Item((_, number)) = groups.group()? {
         if let Answer::Item(first) = groups.item(number)? {
             firsts.push(first)?;
         }
@@ -164,6 +178,9 @@ where
     S::Item: Eq + Drop,
     ensures answer { IfOk result (λ v. OverItems (S.Source.ahead source)
         (λ xs. v.items ≡ places_of S.Item.eq value 0 xs)) }
+    ensures number { refusal_of result ≡ None }
+    ensures fault { length (S.Source.ahead source) < 2 ^ 64
+        → OnFault result (FirstOf (faults (S.Source.ahead source))) }
 {
     let mut places = Vec::new(alloc);
     let mut place = 0;
@@ -197,6 +214,8 @@ where
     ensures none { n ≡ 0 → IsOkAnd result (λ v. v.items ≡ []) }
     ensures answer { 0 < n → IfOk result (λ v. OverItems (S.Source.ahead source)
         (λ xs. InRuns n fill xs v.items)) }
+    ensures number { refusal_of result ≡ None }
+    ensures fault { OnFault result (FirstOf (faults (S.Source.ahead source))) }
 {
     if n == 0 {
         return Ok(Vec::new(alloc));
@@ -228,6 +247,8 @@ where
     S::Item: Copy,
     ensures answer { IfOk result (λ v. OverItems (S.Source.ahead source)
         (λ xs. v.items ≡ triples_of xs)) }
+    ensures number { refusal_of result ≡ None }
+    ensures fault { OnFault result (FirstOf (faults (S.Source.ahead source))) }
 {
     let mut triples = Vec::new(alloc);
     let mut pairs = Pairwise::new(Pairwise::new(source));
@@ -256,6 +277,8 @@ where
     S::Item: Copy,
     ensures answer { IfOk result (λ v. OverItems (S.Source.ahead source)
         (λ xs. v.items ≡ times n xs)) }
+    ensures number { refusal_of result ≡ None }
+    ensures fault { OnFault result (FirstOf (faults (S.Source.ahead source))) }
 {
     let once = list_of(alloc, source)?;
     let mut all = Vec::new(alloc);
@@ -286,6 +309,9 @@ where
         (λ xs. Decided (P.Predicate.says predicate) xs
         × (r.0.items ≡ kept_of (λ a. turned (P.Predicate.says predicate a)) xs)
         × (r.1.items ≡ kept_of (P.Predicate.says predicate) xs))) }
+    ensures number { refusal_of result ≡ None }
+    ensures fault { OnFault result
+        (FirstOf (faults (keyed (P.Predicate.says predicate) (S.Source.ahead source)))) }
 {
     let mut denied = Vec::new(alloc);
     let mut accepted = Vec::new(alloc);

@@ -7,6 +7,7 @@ mod answers;
 mod depot;
 mod lists;
 mod rule_error;
+mod subsets;
 
 use crate::answers::{all_equal, consume, dotproduct, first_true, nth, quantify};
 use crate::depot::{deviations, first_long, first_over, long_gaps, third_slots};
@@ -14,6 +15,7 @@ use crate::lists::{
     flatten, grouper, iter_index, list_of, ncycles, partition, tail, take, triplewise,
     unique_justseen,
 };
+use crate::subsets::powerset;
 use adapters::Keys;
 use rules::{AtLeast, Bay, Itself, Minutes};
 use sources::{Block, List, Range};
@@ -37,6 +39,7 @@ fn main(rt: HostRuntime) -> anyhow::Result<()> {
     depot_rules(&rt, &blocks)?;
     answers_of_the_page(&rt)?;
     lists_of_the_page(&rt, &blocks)?;
+    subsets_of_the_page(&rt)?;
     Ok(())
 }
 
@@ -110,5 +113,12 @@ fn lists_of_the_page(rt: &HostRuntime, blocks: &[Block; 4]) -> anyhow::Result<()
         denied.as_slice(),
         accepted.as_slice()
     )?;
+    Ok(())
+}
+
+// The recipe of the page over an enumerator.
+fn subsets_of_the_page(rt: &HostRuntime) -> anyhow::Result<()> {
+    let subsets = powerset(rt.alloc(), &[1, 2, 3])?;
+    println!(rt; "powerset {:?}", subsets.as_slice())?;
     Ok(())
 }

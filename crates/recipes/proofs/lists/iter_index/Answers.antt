@@ -1,4 +1,4 @@
-use Rattle.std.proofs.Common.{rules, ◌≡◌, ◌++◌, [], sym, ap, ◌∙◌}
+use Rattle.std.proofs.Common.{rules, ◌≡◌, ◌++◌, [], refl, sym, ap, ◌∙◌}
 use Rattle.laws.specs.Items.{items, faults}
 use Rattle.recipes.specs.Lists.{places_of}
 use Rattle.recipes.proofs.ListLemmas.{over_items, kept_all}
@@ -11,4 +11,6 @@ returns g c =
     record {
       answer = over_items (g.S.Source.ahead c.args.source) _ (l.invariant.0 ∙ ap faults e)
           (sym (l.invariant.1 ∙ ap (λ us. l.places.items ++ places_of g.S.Item.PartialEq.eq c.args.value l.place (items us)) e ∙ kept_all l.places.items));
+      number = refl;
+      fault = λ h. tt;
     }

@@ -1,4 +1,4 @@
-use Rattle.std.proofs.Common.{rules, ◌≡◌, ◌++◌, [], sym, ap, ◌∙◌}
+use Rattle.std.proofs.Common.{rules, ◌≡◌, ◌++◌, [], refl, sym, ap, ◌∙◌}
 use Rattle.laws.specs.Items.{items, faults}
 use Rattle.rules.specs.Combined.{turned}
 use Rattle.recipes.specs.Answers.{kept_of}
@@ -16,4 +16,6 @@ returns g c =
         sym (l.invariant.2 ∙ ap (λ us. l.denied.items ++ kept_of (λ a. turned (says a)) (items us)) e ∙ kept_all l.denied.items),
         sym (l.invariant.3 ∙ ap (λ us. l.accepted.items ++ kept_of says (items us)) e ∙ kept_all l.accepted.items),
       );
+      number = refl;
+      fault = tt;
     }

@@ -1,9 +1,12 @@
-use Rattle.std.proofs.Common.{rules, ◌≡◌, ◌++◌, [], map, Ok, sym, ap, ◌∙◌}
+use Rattle.std.proofs.Common.{rules, ◌≡◌, ◌++◌, [], map, Ok, refl, sym, ap, ◌∙◌}
 use Rattle.steps.specs.declared.answer.Answer.TheVariants.{End}
 use Rattle.laws.specs.Items.{items, faults}
 use Rattle.laws.proofs.Steps.{item_first, end_first}
 use Rattle.adapters.specs.Pairwise.{pairwise_ahead}
-use Rattle.recipes.proofs.ListLemmas.{in_a_row, fewer, row_on, over_triples, kept_all}
+use Rattle.recipes.proofs.ListLemmas.{in_a_row, fewer, row_on, over_triples, kept_all, on_fault, met_first}
+use Rattle.std.proofs.lemmas.Result.{err_from_is_err_and}
+use Rattle.laws.specs.Pairwise.{unpaired}
+use Rattle.laws.proofs.Pairwise.{pairwise_faults}
 use Rattle.recipes.proofs.lists.triplewise.Goals as goal
 
 pub loop-pairs-smaller : goal.loop-pairs-smaller
@@ -17,6 +20,13 @@ loop-pairs-preserved g c =
     (item_first c.in-Item.neighbours _ (sym c.next.ensures.gives ∙ c.in_ok-neighbours.was ∙ ap Ok c.in-Item.is)) c.next.ensures.leaves
     c.loop-pairs.invariant c.in_ok-push.ensures.items
 
+pub returns-in_err-neighbours-clause-fault : goal.returns-in_err-neighbours-clause-fault
+returns-in_err-neighbours-clause-fault g c =
+    let p = err_from_is_err_and c.from_residual.result c.from_residual.ensures.1 in
+    let ss = g.S.Source.ahead c.args.source in
+    let all = sym (pairwise_faults (unpaired ss) ∙ pairwise_faults ss) ∙ c.loop-pairs.invariant.1 in
+    on_fault _ p.1 p.2 (met_first (faults ss) (pairwise_ahead (pairwise_ahead g.S.Source.ahead) c.loop-pairs.pairs) _ all (sym c.in_err-neighbours.was ∙ c.next.ensures.gives))
+
 pub returns : goal.returns
 returns g c =
     let l = c.loop-pairs in
@@ -26,4 +36,6 @@ returns g c =
       answer = over_triples (g.S.Source.ahead c.args.source) l.triples.items
           (l.invariant.0 ∙ ap (λ us. l.triples.items ++ map in_a_row (items us)) e ∙ kept_all l.triples.items)
           (l.invariant.1 ∙ ap faults e);
+      number = refl;
+      fault = tt;
     }

@@ -10,6 +10,8 @@ use Rattle.steps.specs.Steps.{Step, first}
 use Rattle.laws.specs.Items.{faults}
 use Rattle.laws.specs.Runs.{Run, Runs, AllEqual, Stops}
 use Rattle.laws.specs.GroupBy.{Standing, Found, Opening, Taking, most_groups, with_key, keyed, started, sought, skipped, next_run, opens_at, opens_run, opens, begun, group_call, taken, takes_keyed, takes, is_number, item_call, number_told, number_earned}
+use Rattle.groups.specs.declared.groupby.GroupBy.{GroupBy}
+use Rattle.groups.specs.GroupBy.{standing, below, keying, opening, taking}
 use Rattle.recipes.proofs.ListLemmas.{listed_more, OfError, OnFault-weaker}
 use Rattle.recipes.specs.Lists.{number_of, OverItems, FirstOf, FirstOfEachRun}
 use Rattle.recipes.specs.RuleError.{rule_error_of}
@@ -318,3 +320,17 @@ module _ {A Q : Type 0} (key : A → Result Q Fault) (same : Q → Q → Bool) w
           let b = begins a (heads (Some q) ss) ys (sym (ap (head_on None a (λ p. heads (Some p) ss)) k) ∙ e) in
           let h = after_all q ss b.0 b.2 in
           (a ∷ (h.more ++ h.after), ap (λ us. Ok a ∷ us) h.all, (headed a q h.more ∷ h.runs, divided_on q a ss b.0 k h, b.1 ∙ ap (λ us. a ∷ us) h.firsts))
+
+-- The two calls of one turn, by what their contracts say of the groupby before them, between them and behind them, where its key kind is
+-- that of the groupby as it was made.
+module _ {S K A Q : Type 0} (key : K → A → Result Q Fault) (ahead : S → List (Step A)) (same : Q → Q → Bool) where
+  pub turn_met : (made before between after : GroupBy S K A Q) {r : Result (Answer (Q × ℕ)) CallError} {q : Q} {n : ℕ} {answer : Result (Answer A) Fault} →
+      (standing before).next_group ≡ false → keying before ≡ keying made →
+      r ≡ (opening key ahead same before).answer → standing between ≡ (opening key ahead same before).standing → ahead (below between) ≡ (opening key ahead same before).left → r ≡ Ok (Item (q, n)) →
+      answer ≡ (taking key ahead same between n).answer → standing after ≡ (taking key ahead same between n).standing → ahead (below after) ≡ (taking key ahead same between n).left →
+      RunMet (key (keying made)) same (standing before).current_key (ahead (below before)) answer (standing after) (ahead (below after))
+  turn_met made before between after {r} {q} {n} {answer} e m ga gt gl w ia iu il =
+      let s = standing before in
+      let ss = ahead (below before) in
+      run_met (key (keying made)) same s ss (key (keying between)) e
+      (ga ∙ ap (λ k. (group_call (key k) same s ss).answer) m) (gt ∙ ap (λ k. (group_call (key k) same s ss).standing) m) (gl ∙ ap (λ k. (group_call (key k) same s ss).left) m) w ia iu il

@@ -6,7 +6,14 @@ ghost use Rattle.laws.specs.ZipLongest.{zipped};
 ghost use Rattle.rules.specs.Joining.{sum};
 ghost use Rattle.rules.specs.Predicate.{lasts};
 ghost use Rattle.recipes.specs.Answers.{first_of, above};
-ghost use Rattle.recipes.specs.Lists.{refusal_of, OverItems, OnFault, FirstOf, EachThird, differing};
+ghost use Rattle.recipes.specs.Lists.{
+  refusal_of,
+  OverItems,
+  OnFault,
+  FirstOf,
+  EachThird,
+  differing,
+};
 
 use crate::answers::first_true;
 use crate::lists::list_of;

@@ -7,7 +7,7 @@ ghost use Rattle.std.specs.Prelude.{
   nat_lt,
   length,
   map,
-  take as first_of,
+  take as front_of,
   drop as past_first,
   Some,
   None,
@@ -75,9 +75,9 @@ where
 pub fn take<S: Source + Drop>(alloc: Global, n: u64, source: S) -> Result<Vec<S::Item>, RuleError>
 where
     S::Item: Drop,
-    ensures answer { IfOk result (λ v. first_of n (S.Source.ahead source) ≡ map Ok v.items) }
+    ensures answer { IfOk result (λ v. front_of n (S.Source.ahead source) ≡ map Ok v.items) }
     ensures number { refusal_of result ≡ cond (nat_lt maxsize n) (Some 5) None }
-    ensures fault { OnFault result (FirstOf (faults (first_of n (S.Source.ahead source)))) }
+    ensures fault { OnFault result (FirstOf (faults (front_of n (S.Source.ahead source)))) }
 {
     list_of(alloc, Islice::new(source, &[Some(n)])?)
 }

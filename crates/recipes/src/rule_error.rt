@@ -1,10 +1,10 @@
-ghost use Rattle.std.specs.Prelude.{◌≡◌};
+ghost use Rattle.std.specs.Prelude.{◌≡◌, Some};
 ghost use Rattle.recipes.specs.declared.rule_error.RuleError.TheVariants.{
   Broken as broken_by,
   Refused as refused_by,
   Memory as wanting,
 };
-ghost use Rattle.recipes.specs.RuleError.{rule_error_of};
+ghost use Rattle.recipes.specs.RuleError.{rule_error_of, rule_error_text};
 ghost use Rattle.std.specs.declared.alloc.AllocError.{AllocError as OfMemory};
 
 use std::alloc::{AllocError, AllocFailed};
@@ -13,7 +13,7 @@ use std::fmt;
 use steps::{CallError, Fault, MakingError, Refusal};
 
 /// Why a rule that makes a list gave none: a fault came up from below, a call was refused, or
-/// memory was wanting. Each becomes one by `?`.
+/// memory was wanting. Each becomes one by `?`. It prints what it holds, as `CallError` does.
 #[derive(Clone, Copy, PartialEq, Eq, Debug)]
 pub enum RuleError {
     /// The fault, as it came.
@@ -76,11 +76,13 @@ impl From<CallError> for RuleError {
 }
 
 impl fmt::Display for RuleError {
+    ghost output = { λ e. Some (rule_error_text e) };
+
     fn fmt<W: fmt::Write>(&self, f: &mut fmt::Formatter<W>) -> fmt::Result {
         match self {
             RuleError::Broken(fault) => write!(f, "{fault}"),
             RuleError::Refused(refusal) => write!(f, "{refusal}"),
-            RuleError::Memory(error) => write!(f, "{error}"),
+            RuleError::Memory(_) => write!(f, "no memory for the list"),
         }
     }
 }

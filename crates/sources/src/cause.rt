@@ -40,8 +40,9 @@ pub struct UnknownCause(pub u16);
 /// end not after start, or after midnight`.
 ///
 /// The words are those of blocks' records: a source of another kind has causes of its own, and its
-/// faults print as `Fault` does, without this. A number that no cause of a block's record has is told as `unknown`. A fault that no source met
-/// names no record, and prints as `Fault` does: `fault of a key kind, cause 7`.
+/// faults print as `Fault` does, without this. A number that no cause of a block's record has is
+/// told as `unknown`. A fault that no source met names no record, and prints as `Fault` does:
+/// `fault of a key kind, cause 7`.
 #[derive(Clone, Copy, PartialEq, Eq, Debug)]
 pub struct RecordFault(pub Fault);
 

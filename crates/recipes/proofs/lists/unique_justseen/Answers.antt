@@ -3,7 +3,7 @@ use Rattle.laws.specs.GroupBy.{keyed, group_call}
 use Rattle.groups.specs.GroupBy.{standing, below, keying}
 use Rattle.recipes.specs.Lists.{number_of, refusal_of, OverItems, FirstOfEachRun}
 use Rattle.recipes.proofs.ListLemmas.{kept_all, on_error}
-use Rattle.recipes.proofs.RunLemmas.{run_met, met_more, none_met, first_of_each_run, one_waits, none_broken, fault_met, one_more, none_more, none_refused}
+use Rattle.recipes.proofs.RunLemmas.{turn_met, met_more, none_met, first_of_each_run, one_waits, none_broken, fault_met, one_more, none_more, none_refused}
 use Rattle.std.proofs.lemmas.Result.{err_from_is_err_and}
 use Rattle.laws.specs.Items.{faults}
 use Rattle.recipes.proofs.lists.unique_justseen.Goals as goal
@@ -16,11 +16,8 @@ loop-groups-smaller-in-Continue-branch-5 g c =
     let ss = g.S.Source.ahead (below groups) in
     let inv = c.loop-groups.invariant in
     let key = g.K.Keying.key (keying c.new-groups.result) in
-    let m = run_met key same s ss (g.K.Keying.key (keying c.group.new.self)) inv.0
-    (c.group.ensures.answer ∙ ap (λ k. (group_call (g.K.Keying.key k) same s ss).answer) inv.1)
-    (c.group.ensures.stands ∙ ap (λ k. (group_call (g.K.Keying.key k) same s ss).standing) inv.1)
-    (c.group.ensures.below ∙ ap (λ k. (group_call (g.K.Keying.key k) same s ss).left) inv.1)
-    (c.in_ok-number.was ∙ ap Ok c.in-Item.is) c.item.ensures.answer c.item.ensures.stands c.item.ensures.below in
+    let m = turn_met g.K.Keying.key g.S.Source.ahead same c.new-groups.result groups c.group.new.self c.item.new.self inv.0 inv.1
+    c.group.ensures.answer c.group.ensures.stands c.group.ensures.below (c.in_ok-number.was ∙ ap Ok c.in-Item.is) c.item.ensures.answer c.item.ensures.stands c.item.ensures.below in
     m.shorter
 
 pub loop-groups-preserved-in-Continue-branch-5 : goal.loop-groups-preserved-in-Continue-branch-5
@@ -31,11 +28,8 @@ loop-groups-preserved-in-Continue-branch-5 g c =
     let ss = g.S.Source.ahead (below groups) in
     let inv = c.loop-groups.invariant in
     let key = g.K.Keying.key (keying c.new-groups.result) in
-    let m = run_met key same s ss (g.K.Keying.key (keying c.group.new.self)) inv.0
-    (c.group.ensures.answer ∙ ap (λ k. (group_call (g.K.Keying.key k) same s ss).answer) inv.1)
-    (c.group.ensures.stands ∙ ap (λ k. (group_call (g.K.Keying.key k) same s ss).standing) inv.1)
-    (c.group.ensures.below ∙ ap (λ k. (group_call (g.K.Keying.key k) same s ss).left) inv.1)
-    (c.in_ok-number.was ∙ ap Ok c.in-Item.is) c.item.ensures.answer c.item.ensures.stands c.item.ensures.below in
+    let m = turn_met g.K.Keying.key g.S.Source.ahead same c.new-groups.result groups c.group.new.self c.item.new.self inv.0 inv.1
+    c.group.ensures.answer c.group.ensures.stands c.group.ensures.below (c.in_ok-number.was ∙ ap Ok c.in-Item.is) c.item.ensures.answer c.item.ensures.stands c.item.ensures.below in
     let up : (standing c.item.new.self).given ≡ (standing c.group.new.self).given =
     ap (λ x. x.given) c.item.ensures.stands ∙ none_more (g.K.Keying.key (keying c.group.new.self)) same (standing c.group.new.self) c.in-Item.number (g.S.Source.ahead (below c.group.new.self)) in
     let at : (standing c.group.new.self).given ≡ (group_call key same s ss).standing.given =
@@ -57,11 +51,8 @@ loop-groups-smaller g c =
     let ss = g.S.Source.ahead (below groups) in
     let inv = c.loop-groups.invariant in
     let key = g.K.Keying.key (keying c.new-groups.result) in
-    let m = run_met key same s ss (g.K.Keying.key (keying c.group.new.self)) inv.0
-    (c.group.ensures.answer ∙ ap (λ k. (group_call (g.K.Keying.key k) same s ss).answer) inv.1)
-    (c.group.ensures.stands ∙ ap (λ k. (group_call (g.K.Keying.key k) same s ss).standing) inv.1)
-    (c.group.ensures.below ∙ ap (λ k. (group_call (g.K.Keying.key k) same s ss).left) inv.1)
-    (c.in_ok-number.was ∙ ap Ok c.in-Item.is) c.item.ensures.answer c.item.ensures.stands c.item.ensures.below in
+    let m = turn_met g.K.Keying.key g.S.Source.ahead same c.new-groups.result groups c.group.new.self c.item.new.self inv.0 inv.1
+    c.group.ensures.answer c.group.ensures.stands c.group.ensures.below (c.in_ok-number.was ∙ ap Ok c.in-Item.is) c.item.ensures.answer c.item.ensures.stands c.item.ensures.below in
     absurd (one_waits key same m (c.in_ok-first.was ∙ ap Ok c.in_default-2.is))
 
 pub loop-groups-preserved : goal.loop-groups-preserved
@@ -72,11 +63,8 @@ loop-groups-preserved g c =
     let ss = g.S.Source.ahead (below groups) in
     let inv = c.loop-groups.invariant in
     let key = g.K.Keying.key (keying c.new-groups.result) in
-    let m = run_met key same s ss (g.K.Keying.key (keying c.group.new.self)) inv.0
-    (c.group.ensures.answer ∙ ap (λ k. (group_call (g.K.Keying.key k) same s ss).answer) inv.1)
-    (c.group.ensures.stands ∙ ap (λ k. (group_call (g.K.Keying.key k) same s ss).standing) inv.1)
-    (c.group.ensures.below ∙ ap (λ k. (group_call (g.K.Keying.key k) same s ss).left) inv.1)
-    (c.in_ok-number.was ∙ ap Ok c.in-Item.is) c.item.ensures.answer c.item.ensures.stands c.item.ensures.below in
+    let m = turn_met g.K.Keying.key g.S.Source.ahead same c.new-groups.result groups c.group.new.self c.item.new.self inv.0 inv.1
+    c.group.ensures.answer c.group.ensures.stands c.group.ensures.below (c.in_ok-number.was ∙ ap Ok c.in-Item.is) c.item.ensures.answer c.item.ensures.stands c.item.ensures.below in
     absurd (one_waits key same m (c.in_ok-first.was ∙ ap Ok c.in_default-2.is))
 
 -- the faults ahead are those of the steps that are left, as none was met
@@ -110,11 +98,8 @@ returns-in_err-first-clause-fault g c =
     let ss = g.S.Source.ahead (below groups) in
     let inv = c.loop-groups.invariant in
     let key = g.K.Keying.key (keying c.new-groups.result) in
-    let m = run_met key same s ss (g.K.Keying.key (keying c.group.new.self)) inv.0
-    (c.group.ensures.answer ∙ ap (λ k. (group_call (g.K.Keying.key k) same s ss).answer) inv.1)
-    (c.group.ensures.stands ∙ ap (λ k. (group_call (g.K.Keying.key k) same s ss).standing) inv.1)
-    (c.group.ensures.below ∙ ap (λ k. (group_call (g.K.Keying.key k) same s ss).left) inv.1)
-    (c.in_ok-number.was ∙ ap Ok c.in-Item.is) c.item.ensures.answer c.item.ensures.stands c.item.ensures.below in
+    let m = turn_met g.K.Keying.key g.S.Source.ahead same c.new-groups.result groups c.group.new.self c.item.new.self inv.0 inv.1
+    c.group.ensures.answer c.group.ensures.stands c.group.ensures.below (c.in_ok-number.was ∙ ap Ok c.in-Item.is) c.item.ensures.answer c.item.ensures.stands c.item.ensures.below in
     absurd (none_broken key same m c.in_err-first.was)
 
 pub returns : goal.returns

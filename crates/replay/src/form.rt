@@ -111,6 +111,8 @@ pub fn bytes(alloc: Global, word: &str) -> Result<Vec<u8>, Flaw> {
     match word {
         "-" => Ok(Vec::new(alloc)),
         "" => Err(Flaw::Form),
+        // told before there is memory for any of the bytes
+        _ if word.len() % 2 != 0 => Err(Flaw::Form),
         _ => word.as_bytes().chunks(2).map(byte).try_collect(alloc),
     }
 }

@@ -44,7 +44,8 @@ impl Cycles {
 // All places in rising order, and n, n - 1, n - 2 and so on: before the first row every place can
 // still be exchanged with all behind it.
 pub(crate) fn begin(n: usize, indices: &mut [u16], cycles: &mut [u16])
-    requires small { (n < 2 ^ 16) × (length indices.old ≤ 2 ^ 16) }
+    requires small { (n < 2 ^ 16) × (length indices.old ≤ 2 ^ 16)
+        × (length cycles.old ≤ 2 ^ 16) }
     ensures indices { (k : ℕ) → k < length indices.old → slice_index indices.new k ≡ k }
     ensures cycles { (k : ℕ) → k < length cycles.old → slice_index cycles.new k ≡ n - k }
     ensures long { length indices.new ≡ length indices.old }
@@ -54,7 +55,8 @@ pub(crate) fn begin(n: usize, indices: &mut [u16], cycles: &mut [u16])
         *index = i as u16;
     }
     for (i, cycle) in cycles.iter_mut().enumerate() {
-        *cycle = n.saturating_sub(i) as u16;
+        // in 16 bits, of which a processor subtracts eight at once
+        *cycle = (n as u16).saturating_sub(i as u16);
     }
 }
 

@@ -112,6 +112,30 @@ fn failing_plan(alloc: Global) -> Result<Vec<u8>, Fail> {
     Ok(bytes)
 }
 
+// Two blocks of bay 2 with a faulty record between them, the second too early, and one of bay 1.
+const OVERLAPPING: &str = "plan: b.plan, 40 bytes
+blocks: 3
+  bay     2  bus     7  06:00-06:10
+  bay     2  bus     7  06:09-06:40
+  bay     1  bus     7  01:40-03:20
+faulty records: 1
+  byte      12  cause 3: another kind of record
+neighbours
+  bay     2  bus     7  06:00-06:10  then bus     7  06:09-06:40  starts 1 min too early
+  bay     2  is followed by bay 1: out of order
+pairs: 1
+plan failed: faulty records 1, overlaps 1, bays out of order 1
+";
+
+fn overlapping_plan(alloc: Global) -> Result<Vec<u8>, Fail> {
+    let mut bytes = Vec::new(alloc);
+    add_block(&mut bytes, 2, 360, 370)?;
+    bytes.extend_from_slice(&[0, 0, 0x11, 0])?;
+    add_block(&mut bytes, 2, 369, 400)?;
+    add_block(&mut bytes, 1, 100, 200)?;
+    Ok(bytes)
+}
+
 #[test]
 fn a_failing_plan_is_told_in_full(rt: HostRuntime) -> Result<(), Fail> {
     let alloc = rt.alloc();
@@ -119,6 +143,11 @@ fn a_failing_plan_is_told_in_full(rt: HostRuntime) -> Result<(), Fail> {
     let mut out = Vec::new(alloc);
     let account = report(alloc, &mut out, "a.plan", bytes.as_slice())?;
     assert_eq!(rt; out.as_slice(), FAILING.as_bytes());
+    assert_eq!(rt; account.passed(), false);
+    let bytes = overlapping_plan(alloc)?;
+    let mut out = Vec::new(alloc);
+    let account = report(alloc, &mut out, "b.plan", bytes.as_slice())?;
+    assert_eq!(rt; out.as_slice(), OVERLAPPING.as_bytes());
     assert_eq!(rt; account.passed(), false);
     Ok(())
 }

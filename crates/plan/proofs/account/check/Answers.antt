@@ -1,4 +1,4 @@
-use Rattle.std.proofs.Common.{◌≡◌, ◌↔◌, IsTrue, ◌<◌, ◌+◌, ◌^◌, length, Option, Some, [], ◌∷◌, nat_eq, Ok, Err, sym, ap, subst, ◌∙◌, arith}
+use Rattle.std.proofs.Common.{◌≡◌, ◌↔◌, IsTrue, ◌<◌, ◌+◌, ◌^◌, length, Option, Some, [], ◌∷◌, nat_eq, Ok, Err, sym, ap, subst, ◌∙◌, arith, rules}
 use Rattle.std.specs.HashMap.{get}
 use Rattle.steps.specs.Steps.{rest}
 use Rattle.sources.specs.Records.{records_from}
@@ -38,7 +38,8 @@ returns-in-Ok-End-clause-verdict c =
     let none : ss ≡ [] = at_end ss (sym c.next.ensures.gives ∙ c.in-Ok-End.is ∙ ap Ok c.in-Ok-End.field-0-is) in
     let told : c.loop-block.account ≡ account_of all =
     all_counted all c.loop-block.account _ _ (subst (Counted all c.loop-block.account c.loop-block.bays.last (get nat_eq c.loop-block.bays.standings)) none c.loop-block.invariant) in
-    subst (λ a. IsTrue (all_clear a) ↔ Passes all) (sym told) (clear_passes c.args.bytes.now)
+    let here = subst (λ a. IsTrue (all_clear a) ↔ Passes all) (sym told) (clear_passes c.args.bytes.now) in
+    search (rules, here)
 
 pub overflow_add-account : goal.overflow_add-account
 overflow_add-account c =

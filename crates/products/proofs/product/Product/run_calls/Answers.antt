@@ -1,4 +1,4 @@
-use Rattle.std.proofs.Common.{◌∙◌, sym}
+use Rattle.std.proofs.Common.{rules}
 use Rattle.std.proofs.lemmas.List.{length-map}
 use Rattle.row_laws.specs.Calls.{controller}
 use Rattle.row_laws.specs.Carries.{counter_shown}
@@ -6,14 +6,13 @@ use Rattle.row_laws.specs.Makings.{product_making}
 use Rattle.row_laws.specs.Lawful.{ProductRow}
 use Rattle.row_laws.proofs.Carries.{counter_fits}
 use Rattle.row_laws.proofs.History.{since}
-use Rattle.enumerators.specs.History.{memory, memories}
 use Rattle.products.proofs.product.Product.run_calls.Goals as goal
 
 pub returns : goal.returns
 returns g c =
     let s = c.in_ok-enumerator.enumerator in
     let k = s.counter in
-    since controller (ProductRow c.args.lengths.now c.args.repeat) (product_making c.args.lengths.now c.args.repeat 0)
+    let here = since {T = g.row.T.Denot} controller (ProductRow c.args.lengths.now c.args.repeat) (product_making c.args.lengths.now c.args.repeat 0)
     (counter_shown k.width k.size k.starts k.lengths k.idxs k.stop) c.in_ok-enumerator.ensures
-    (counter_fits controller k.width k.size k.starts k.lengths k.idxs k.stop k.short k.few k.long k.modest k.lying)
-    (memories c.args.calls.now) (memories c.run.new.calls) c.run.result (c.run.ensures.count ∙ sym (length-map c.args.calls.now memory)) c.run.ensures.law.history
+    (counter_fits controller k.width k.size k.starts k.lengths k.idxs k.stop k.short k.few k.long k.modest k.lying) in
+    search (rules, here, length-map, c)
